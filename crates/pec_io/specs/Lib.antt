@@ -1,0 +1,5 @@
+pub mod Faults
+pub mod Feed
+pub mod Intake
+pub mod Reading
+pub mod Writing
