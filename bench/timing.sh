@@ -1,0 +1,25 @@
+#!/usr/bin/env bash
+# For the other scripts of bench/: how long a command takes, and the ratio of two times.
+
+# seconds TIMES INPUT COMMAND..: the seconds that TIMES runs of the command take, INPUT as standard input.
+seconds() {
+  local times=$1 input=$2 start end
+  shift 2
+  start=$(date +%s%N)
+  for ((i = 0; i < times; i++)); do "$@" < "$input" > /dev/null || return 1; done
+  end=$(date +%s%N)
+  awk -v span=$((end - start)) 'BEGIN { printf "%.4f\n", span / 1e9 }'
+}
+
+# ratio NAME A B MOST: prints A / B, and fails where it is MOST or more.
+ratio() {
+  awk -v name="$1" -v a="$2" -v b="$3" -v most="$4" \
+    'BEGIN { r = a / b; printf "%s: %.4f s against %.4f s, ratio %.2f (below %s)\n", name, a, b, r, most; exit r >= most }'
+}
+
+# The proved bench program, which `rt run` in crates/pec_bench builds.
+bench=$(cd "$(dirname "${BASH_SOURCE[0]}")/.." && pwd)/crates/pec_bench/out/pec_bench
+if [ ! -x "$bench" ]; then
+  echo "no proved bench program: (cd crates/pec_bench && rt run -- io < stdin) makes it" >&2
+  exit 1
+fi

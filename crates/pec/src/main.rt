@@ -1,0 +1,61 @@
+//! The program `pec`: the real words, standard input and standard output, handed to the top call.
+//! What the streams give and take is not proved; all between is `serve_plain`'s promise.
+#![tactic(auto)]
+
+use pec_io::{StdSink, StdSource};
+use pec_top::serve_plain;
+use std::env;
+use std::process::ExitCode;
+
+const USAGE: &str = "usage: pec prove";
+
+const HELP: &str = "\
+pec proves rewrite rules once for everything that their parameters stand for.
+
+usage: pec prove
+       pec --help | --version
+
+prove   reads one rule from standard input and writes a report on standard output
+
+status  0 proved, 1 refused, 2 no such command, 3 input refused,
+        4 a read failed, 5 a write failed, 6 want of memory";
+
+fn main(rt: HostRuntime) -> ExitCode {
+    let alloc = rt.alloc();
+    let words = match env::args(&rt) {
+        Ok(words) => words.skip(1).collect::<Vec<String>>(alloc),
+        // Words that can't be read, or are no text, are in no form.
+        Err(_error) => {
+            let _ = rt.eprintln(USAGE);
+            return ExitCode::from(2);
+        }
+    };
+    let Ok(words) = words else {
+        return ExitCode::from(6);
+    };
+    let answered = match words.as_slice() {
+        [word] if word.as_str() == "--help" => rt.println(HELP),
+        [word] if word.as_str() == "--version" => rt.println("pec 0.1.0"),
+        words => return ExitCode::from(run(&rt, words)),
+    };
+    match answered {
+        Ok(()) => ExitCode::SUCCESS,
+        Err(_error) => ExitCode::from(5),
+    }
+}
+
+/// Runs the command of these words over the standard streams. What stopped it is said on standard
+/// error, where that can be said.
+fn run(rt: &HostRuntime, words: &[String]) -> u8 {
+    let mut input = StdSource::new(rt.stdin());
+    let mut out = StdSink::new(rt.stdout());
+    let status = serve_plain(rt.alloc(), words, &mut input, &mut out);
+    let _ = match status {
+        2 => rt.eprintln(USAGE),
+        4 => rt.eprintln("pec: standard input could not be read"),
+        5 => rt.eprintln("pec: standard output could not be written"),
+        6 => rt.eprintln("pec: not enough memory"),
+        _ => Ok(()),
+    };
+    status
+}

@@ -1,0 +1,38 @@
+//! The bench program: its first word names what is timed, standard input holds the data.
+//! It promises nothing; the scripts of bench/ run it on the proved calls.
+#![tactic(auto)]
+
+use pec_io::{StdSink, StdSource, read_all, write_all};
+use std::env;
+use std::process::ExitCode;
+
+/// The greatest number of bytes that a bench reads.
+const MOST: usize = 67_108_864;
+
+fn main(rt: HostRuntime) -> ExitCode {
+    let alloc = rt.alloc();
+    let words = match env::args(&rt) {
+        Ok(words) => words.skip(1).collect::<Vec<String>>(alloc),
+        Err(_error) => return ExitCode::from(2),
+    };
+    let Ok(words) = words else {
+        return ExitCode::from(6);
+    };
+    match words.as_slice() {
+        [name] if name.as_str() == "io" => ExitCode::from(io(&rt)),
+        _ => ExitCode::from(2),
+    }
+}
+
+/// Copies standard input to standard output through `read_all` and `write_all`.
+fn io(rt: &HostRuntime) -> u8 {
+    let mut input = StdSource::new(rt.stdin());
+    let mut out = StdSink::new(rt.stdout());
+    let Ok(bytes) = read_all(rt.alloc(), &mut input, MOST) else {
+        return 4;
+    };
+    match write_all(&mut out, bytes.as_slice()) {
+        Ok(()) => 0,
+        Err(_failed) => 5,
+    }
+}

@@ -1,0 +1,3 @@
+pub mod Output
+pub mod Serving
+pub mod Words
