@@ -25,11 +25,7 @@ fn reads_rules_of_skips_and_statement_parameters(rt: HostRuntime) -> Result<(), 
         for (side, wanted) in [(rule.left, left), (rule.right, right)] {
             assert_eq!(rt; side.len(), wanted.len(), "{text}");
             for (number, digit) in side.as_slice().iter().zip(wanted.as_bytes()) {
-                assert_eq!(rt;
-                    u64::try_from(*number).unwrap_or(9) + 48,
-                    u64::from(*digit),
-                    "{text}"
-                );
+                assert_eq!(rt; *number, usize::from(digit.wrapping_sub(b'0')), "{text}");
             }
         }
     }
