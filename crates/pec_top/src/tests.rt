@@ -88,12 +88,14 @@ fn refuses_other_words(rt: HostRuntime) -> Result<(), Fail> {
 fn refuses_one_byte_more_than_the_limit(rt: HostRuntime) -> Result<(), Fail> {
     let mut input = vec![in rt.alloc(); b'\n'; 1_048_576]?;
     let (status, sink, _source) = run(rt.alloc(), &["prove"], input.as_slice(), &[], 99)?;
-    assert_eq!(rt; (status, sink.written()), (3, NOT_BUILT.as_bytes()));
+    assert_eq!(rt; status, 3);
+    assert_eq!(rt; sink.written(), NOT_BUILT.as_bytes());
 
     input.push(b'\n')?;
     let (status, sink, source) = run(rt.alloc(), &["prove"], input.as_slice(), &[], 99)?;
     let line = "input: larger than 1048576 bytes\n";
-    assert_eq!(rt; (status, sink.written()), (3, line.as_bytes()));
+    assert_eq!(rt; status, 3);
+    assert_eq!(rt; sink.written(), line.as_bytes());
     assert_eq!(rt; source.left().len(), 0);
     Ok(())
 }
