@@ -3,6 +3,7 @@
 #![tactic(auto)]
 
 use pec_io::{StdSink, StdSource, read_all, write_all};
+use pec_text::sections;
 use std::env;
 use std::process::ExitCode;
 
@@ -20,6 +21,7 @@ fn main(rt: HostRuntime) -> ExitCode {
     };
     match words.as_slice() {
         [name] if name.as_str() == "io" => ExitCode::from(io(&rt)),
+        [name] if name.as_str() == "sections" => ExitCode::from(cut(&rt)),
         _ => ExitCode::from(2),
     }
 }
@@ -34,5 +36,22 @@ fn io(rt: &HostRuntime) -> u8 {
     match write_all(&mut out, bytes.as_slice()) {
         Ok(()) => 0,
         Err(_failed) => 5,
+    }
+}
+
+/// Cuts standard input into sections, and prints how many are whole and what stops the cut.
+fn cut(rt: &HostRuntime) -> u8 {
+    let mut input = StdSource::new(rt.stdin());
+    let Ok(bytes) = read_all(rt.alloc(), &mut input, MOST) else {
+        return 4;
+    };
+    let Ok(text) = sections(rt.alloc(), bytes.as_slice()) else {
+        return 6;
+    };
+    let whole = text.whole.len();
+    let rest = text.rest;
+    match println!(rt; "whole {whole}\nrest {rest:?}") {
+        Ok(()) => 0,
+        Err(_error) => 5,
     }
 }

@@ -1,3 +1,4 @@
+pub mod Judging
 pub mod Output
 pub mod Serving
 pub mod Words

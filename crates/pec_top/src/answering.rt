@@ -1,25 +1,26 @@
 //! From the bytes of an input to its output: the rule is read, and proved or refused.
 
-ghost use Rattle.std.specs.Prelude.{◌≢◌, IfOk};
+ghost use Rattle.std.specs.Prelude.{IfOk};
+ghost use Rattle.pec_top.specs.Judging.{Judges};
 
 use super::Output;
-use rule_reader::{ReadRefusal, read_skip_rule};
+use rule_reader::{ReadOne, read_one, sides_agree};
 use std::alloc::{AllocError, Global};
 
-/// The output for these bytes: the report on the rule, or that the text is not in a form that is
-/// built.
+/// The output for these bytes: the report on the rule that they spell, or that they spell none in
+/// the form that is built.
 pub fn answer(alloc: Global, bytes: &[u8]) -> Result<Output, AllocError>
-    ensures { IfOk result (λ output. output ≢ Output.Larger) }
+    ensures { IfOk result (Judges bytes.now) }
 {
-    match read_skip_rule(alloc, bytes) {
+    match read_one(alloc, bytes) {
         Ok(rule) => {
-            if rule.sides_agree() {
+            if sides_agree(alloc, &rule)? {
                 Ok(Output::Proved(rule.title))
             } else {
                 Ok(Output::Refused(rule.title))
             }
         }
-        Err(ReadRefusal::NotBuilt) => Ok(Output::NotBuilt),
-        Err(ReadRefusal::NoMemory) => Err(AllocError),
+        Err(ReadOne::NotBuilt) => Ok(Output::NotBuilt),
+        Err(ReadOne::NoMemory) => Err(AllocError),
     }
 }

@@ -1,1 +1,4 @@
-pub mod Names
+pub mod Gives
+pub mod SkipReading
+pub mod SkipRule
+pub mod SkipText

@@ -1,27 +1,70 @@
-//! A rule whose sides hold `skip;` and statement parameters alone, and when it is proved: where
-//! both sides have the same statement parameters once `skip;` is dropped.
+//! What a rule of `skip;` and statement parameters says besides its title, and when it is well
+//! formed. `specs/SkipRule.antt` says both.
 
-ghost use Rattle.std.specs.Prelude.{◌≡◌, ◌↔◌, IsTrue};
+ghost use Rattle.std.specs.Prelude.{◌≡◌, ◌≤◌, ◌↔◌, IfOk, IsTrue, length, map};
 
+use super::skip_names::{all_occur, are_different};
+use super::verdict::kept;
 use sqlite_items::Items;
+use std::alloc::{AllocError, Global};
+use toy_imp::{Block, CutList, Kind, Method, Param, Rule};
 
-/// What is left of such a rule once `skip;` is dropped.
+/// The declared names of statement parameters, and the two sides.
 #[derive(Drop)]
 pub struct SkipRule {
-    /// The title, an ID.
-    pub title: Items<u8>,
-    /// The statement parameters of the left side in order, each by its place among the declared
-    /// names, from 0.
-    pub left: Items<usize>,
-    /// Those of the right side.
-    pub right: Items<usize>,
+    /// The names in order of declaration.
+    pub names: Items<Items<u8>>,
+    /// The left side: `skip;` and parameters by their numbers.
+    pub left: Block,
+    /// The right side.
+    pub right: Block,
 }
 
 impl SkipRule {
-    /// Whether both sides run the same statement parameters in the same order.
-    pub fn sides_agree(&self) -> bool
-        ensures { IsTrue result ↔ (self.now.left ≡ self.now.right) }
+    ghost use Rattle.rule_reader.specs.SkipRule.{AreNamesUsed, rule_of};
+
+    /// Whether no two names are alike and each stands on the left.
+    pub fn are_names_used(&self, alloc: Global) -> Result<bool, AllocError>
+        requires { length self.now.names ≤ 64 }
+        ensures { IfOk result (λ yes. IsTrue yes ↔ AreNamesUsed self.now) }
     {
-        self.left.as_slice() == self.right.as_slice()
+        if !are_different(self.names.as_slice()) {
+            return Ok(false);
+        }
+        let numbers = kept(alloc, &self.left)?;
+        Ok(all_occur(self.names.len() as u32, numbers.as_slice()))
     }
+
+    /// The rule with this title.
+    pub fn into_rule(self, alloc: Global, title: Items<u8>) -> Result<Rule, AllocError>
+        ensures { IfOk result (λ rule. rule ≡ rule_of title self) }
+    {
+        let params = statement_params(alloc, self.names.as_slice())?;
+        Ok(Rule {
+            title,
+            params,
+            conditions: Items::new(alloc),
+            method: Method::Simulate,
+            cuts: CutList::Default,
+            left: self.left,
+            right: self.right,
+        })
+    }
+}
+
+ghost use Rattle.rule_reader.specs.SkipRule.{statement_param};
+
+/// A statement parameter for each name.
+fn statement_params(alloc: Global, names: &[Items<u8>]) -> Result<Items<Param>, AllocError>
+    ensures { IfOk result (λ params. params ≡ map statement_param names.now) }
+{
+    let mut params = Items::new(alloc);
+    for name in names {
+        let name = Items::from_slice(alloc, name.as_slice())?;
+        params.push(Param {
+            kind: Kind::Stmt,
+            name,
+        })?;
+    }
+    Ok(params)
 }

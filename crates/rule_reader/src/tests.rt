@@ -1,32 +1,52 @@
 //! Texts that are read, and near misses that are not.
 
-use super::{ReadRefusal, read_skip_rule};
+use super::{ReadOne, read_one, sides_agree};
 use std::test::Fail;
 
 #[test]
 fn reads_rules_of_skips_and_statement_parameters(rt: HostRuntime) -> Result<(), Fail> {
-    let alloc = rt.alloc();
-    // the text, and the parameters of its sides by number
+    // the text, the number of parameters, of statements on the left and on the right, and whether
+    // the sides agree
     let texts = [
-        ("rule a\nleft { } right { }\nend\n", "", ""),
+        ("rule a\nleft { } right { }\nend\n", 0, 0, 0, true),
         (
             "rule skip\nstmt S;\nleft { S; skip; }\nright { S; }\nend",
-            "0",
-            "0",
+            1,
+            2,
+            1,
+            true,
         ),
         (
             "\n \trule  t_1\t\nstmt S\nT;left{S;T;S;}right{T;}\n\nend \n\n",
-            "010",
-            "1",
+            2,
+            3,
+            1,
+            false,
+        ),
+        (
+            "rule exch\nstmt S T;\nleft { S; T; }\nright { T; S; }\nend\n",
+            2,
+            2,
+            2,
+            false,
+        ),
+        (
+            "rule twice\nstmt S T;\nleft { S; T; }\nright { S; T; T; }\nend\n",
+            2,
+            2,
+            3,
+            false,
         ),
     ];
-    for (text, left, right) in texts {
-        let rule = read_skip_rule(alloc, text.as_bytes())?;
-        for (side, wanted) in [(rule.left, left), (rule.right, right)] {
-            assert_eq!(rt; side.len(), wanted.len(), "{text}");
-            for (number, digit) in side.as_slice().iter().zip(wanted.as_bytes()) {
-                assert_eq!(rt; *number, usize::from(digit.wrapping_sub(b'0')), "{text}");
+    for (text, params, left, right, agree) in texts {
+        match read_one(rt.alloc(), text.as_bytes()) {
+            Ok(rule) => {
+                assert_eq!(rt; rule.params.len(), params, "{text}");
+                assert_eq!(rt; rule.left.stmts.len(), left, "{text}");
+                assert_eq!(rt; rule.right.stmts.len(), right, "{text}");
+                assert_eq!(rt; sides_agree(rt.alloc(), &rule)?, agree, "{text}");
             }
+            Err(refused) => assert_eq!(rt; Some(refused), None, "{text}"),
         }
     }
     Ok(())
@@ -43,6 +63,7 @@ fn refuses_other_texts(rt: HostRuntime) -> Result<(), Fail> {
         "program a\nleft { } right { }\nend\n",
         "rule a\nleft { } right { } end\n",
         "rule a\nleft { } right { }\nend\nend\n",
+        "rule a\nleft { } right { }\nend\nrule b\nleft { } right { }\nend\n",
         "rule a\n# a comment\nleft { } right { }\nend\n",
         "rule a\nleft { } right { }\r\nend\n",
         "rule a\nright { } left { }\nend\n",
@@ -57,8 +78,8 @@ fn refuses_other_texts(rt: HostRuntime) -> Result<(), Fail> {
         "rule a\nstmt S;\nleft { if S { } else { } } right { }\nend\n",
     ];
     for text in texts {
-        let refused = read_skip_rule(rt.alloc(), text.as_bytes()).err();
-        assert_eq!(rt; refused, Some(ReadRefusal::NotBuilt), "{text}");
+        let refused = read_one(rt.alloc(), text.as_bytes()).err();
+        assert_eq!(rt; refused, Some(ReadOne::NotBuilt), "{text}");
     }
     Ok(())
 }

@@ -1,0 +1,36 @@
+#!/usr/bin/env bash
+# Times the cut into sections on 1 MiB beside 256 KiB, in three shapes. Four times the text takes four times the time.
+set -euo pipefail
+# shellcheck source=bench/timing.sh
+source "$(dirname "${BASH_SOURCE[0]}")/timing.sh"
+folder=$(mktemp -d)
+trap 'rm -rf "$folder"' EXIT
+
+# repeated TEXT SIZE: the text again and again, cut at that many bytes.
+repeated() {
+  (yes "$1" || true) | head -c "$2"
+}
+
+one_line_sections() { repeated $'rule a\nx;\nend' "$1"; }
+line_feeds() { repeated '' "$1"; }
+one_section() {
+  echo 'report r'
+  repeated 'x := x + 1;' "$1"
+  echo
+  echo 'end'
+}
+
+# processor_seconds INPUT: the processor time of 20 runs, the least of five: other programs change it little.
+processor_seconds() {
+  local TIMEFORMAT='%U %S'
+  for _ in 1 2 3 4 5; do
+    { time for _ in {1..20}; do "${bench:?}" sections < "$1" > /dev/null; done; } 2>&1
+  done | awk '{ print $1 + $2 }' | sort -n | head -n 1
+}
+
+for shape in one_line_sections line_feeds one_section; do
+  "$shape" 1048576 > "$folder/large"
+  "$shape" 262144 > "$folder/small"
+  ratio "sections of 1 MiB against 256 KiB, $shape" \
+    "$(processor_seconds "$folder/large")" "$(processor_seconds "$folder/small")" 5
+done

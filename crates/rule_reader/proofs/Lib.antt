@@ -1,0 +1,5 @@
+pub mod OneSections
+pub mod SkipReadings
+pub mod SkipRules
+pub mod SkipSides
+pub mod SkipTurns

@@ -1,0 +1,101 @@
+//! The laws that proofs about programs stand on, each the contract of a function that does nothing.
+//! The statements are in `specs/StoreLaws.antt`, `specs/RunLaws.antt` and `specs/NumberLaws.antt`.
+
+ghost use Rattle.toy_imp.specs.NumberLaws.{ProductCommutes, ProductAssociates, ProductOfSum, SumTimes, ProductOfDifference, DifferenceTimes};
+ghost use Rattle.toy_imp.specs.RunLaws.{WorkSplits, WorkJoins, OneFinalStore, SkipIsNothing, SkipDrops, EmptyIsNothing, LaterReplaced, FrontReplaced, PartsReplaced, OpenNeverEnds};
+ghost use Rattle.toy_imp.specs.StoreLaws.{WriteIsRead, WriteKeepsOthers, AgreeingIsEqual};
+
+/// A cell holds what was written into it.
+pub fn write_is_read()
+    ensures { WriteIsRead }
+{}
+
+/// A write keeps every other cell.
+pub fn write_keeps_others()
+    ensures { WriteKeepsOthers }
+{}
+
+/// Stores that agree at every cell are equal.
+pub fn agreeing_is_equal()
+    ensures { AgreeingIsEqual }
+{}
+
+/// The steps that do two lists of work are steps that do the first and then steps that do the second.
+pub fn work_splits()
+    ensures { WorkSplits }
+{}
+
+/// Steps that do one list of work and then another do both.
+pub fn work_joins()
+    ensures { WorkJoins }
+{}
+
+/// From a store, work reaches at most one final store.
+pub fn one_final_store()
+    ensures { OneFinalStore }
+{}
+
+/// A parameter that stands for no statement never ends.
+pub fn open_never_ends()
+    ensures { OpenNeverEnds }
+{}
+
+/// `skip` in front of any work changes nothing.
+pub fn skip_is_nothing()
+    ensures { SkipIsNothing }
+{}
+
+/// `skip` may be dropped at any place of a block.
+pub fn skip_drops()
+    ensures { SkipDrops }
+{}
+
+/// The empty block changes nothing in front of work or after a block.
+pub fn empty_is_nothing()
+    ensures { EmptyIsNothing }
+{}
+
+/// Work that is done later may be replaced by work that ends alike.
+pub fn later_replaced()
+    ensures { LaterReplaced }
+{}
+
+/// A block in front of work may be replaced by one that is the same.
+pub fn front_replaced()
+    ensures { FrontReplaced }
+{}
+
+/// Both parts of a block may be replaced by blocks that are the same.
+pub fn parts_replaced()
+    ensures { PartsReplaced }
+{}
+
+/// The order of two factors does not matter.
+pub fn product_commutes()
+    ensures { ProductCommutes }
+{}
+
+/// The grouping of three factors does not matter.
+pub fn product_associates()
+    ensures { ProductAssociates }
+{}
+
+/// A number times a sum.
+pub fn product_of_sum()
+    ensures { ProductOfSum }
+{}
+
+/// A sum times a number.
+pub fn sum_times()
+    ensures { SumTimes }
+{}
+
+/// A number times a difference.
+pub fn product_of_difference()
+    ensures { ProductOfDifference }
+{}
+
+/// A difference times a number.
+pub fn difference_times()
+    ensures { DifferenceTimes }
+{}

@@ -1,0 +1,28 @@
+//! The data of programs and of rewrite rules, with their meaning.
+//! Each type stands in a file of its own. `specs/` says what a program does, when an instance fits a
+//! rule and meets its conditions, and when a rule is valid; `laws` has what all proofs stand on.
+//! Whatever allocates takes the allocator first and answers `NoMemory` where there is none.
+#![tactic(auto)]
+
+mod block;
+mod condition;
+mod expr;
+mod instance;
+pub mod laws;
+mod name;
+mod no_memory;
+mod param;
+mod rule;
+mod test;
+#[cfg(test)]
+mod tests;
+
+pub use block::{Block, Stmt, StmtNode};
+pub use condition::{Condition, Region};
+pub use expr::{Expr, ExprNode};
+pub use instance::{Filling, Instance};
+pub use name::Name;
+pub use no_memory::NoMemory;
+pub use param::{Kind, Param};
+pub use rule::{CutList, Method, Rule};
+pub use test::{Test, TestNode};
