@@ -1,5 +1,5 @@
 -- Bytes that come or go piece by piece: two pieces one after the other are one piece.
-use Rattle.std.proofs.Common.{◌≡◌, ◌+◌, ◌-◌, ◌≤◌, ℕ, List, ◌++◌, length, take, drop, Option, Some, None, Result, Ok, sym, ap, subst, ◌∙◌, append_assoc, arith, ◌<◌, min, []}
+use Rattle.std.proofs.Common.{◌≡◌, ◌+◌, ◌-◌, ◌≤◌, ℕ, List, ◌++◌, length, take, drop, Option, Some, None, Ok, sym, ap, subst, ◌∙◌, append_assoc, arith, ◌<◌, min, []}
 use Rattle.std.proofs.Math.ListN.{drop_of_length-le}
 use Rattle.std.proofs.Math.Seq.{take-add, drop-drop, take-append_seam}
 use Rattle.std.proofs.lemmas.List.{take-append-drop, take_rest}

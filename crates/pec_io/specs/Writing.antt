@@ -1,6 +1,6 @@
 -- What a write does to the room that a sink tells, and what a writing of many pieces leaves:
 -- all of the bytes, or a front part of them that is not all.
-use Rattle.std.specs.Prelude.{◌≡◌, ℕ, ◌-◌, ◌<◌, ◌≤◌, Option, None, Some, Result, Ok, IsOk, List, length, take}
+use Rattle.std.specs.Prelude.{◌≡◌, ℕ, ◌-◌, ◌<◌, ◌≤◌, Option, None, Some, Result, Ok, List, length, take}
 use Rattle.std.specs.Io.KnownBytes.{Appends}
 
 -- a piece of n bytes for which the told room is enough is taken whole, and the room falls by n

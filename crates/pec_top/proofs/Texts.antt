@@ -1,5 +1,5 @@
 -- Lists of one text.
-use Rattle.std.proofs.Common.{◌≡◌, ◌<◌, ◌↔◌, ◌∙◌, ap, sym, subst, ℕ, Bool, List, [], ◌∷◌, length, map, IsTrue, rules, arith, refl}
+use Rattle.std.proofs.Common.{◌≡◌, ◌<◌, ◌↔◌, ◌∙◌, ap, sym, ℕ, Bool, List, [], ◌∷◌, length, map, IsTrue, rules, arith, refl}
 use Rattle.std.proofs.lemmas.Slice.Eq.{bytes_eq-Decides}
 use Rattle.std.specs.Str.{bytes_eq}
 

@@ -1,11 +1,10 @@
 -- The tokens of a rule of skips and statement parameters are read as that rule, and what is read has these tokens.
 use Rattle.std.proofs.Common.{◌≡◌, ◌≢◌, ◌<◌, ◌≤◌, ℕ, Bool, true, false, List, [], ◌∷◌, ◌++◌, ◌&&◌, cond, nat_lt, nat_le, map, length, slice_index_or, Option, None, Some, option_map, option_and_then, bytes_eq, sym, ◌∙◌, ap, subst, refl, append_assoc, append-nil, rules, arith}
-use Rattle.std.proofs.lemmas.Grind.{common_steps}
 use Rattle.std.proofs.lemmas.Option.{none-some, same_Some}
 use Rattle.std.proofs.lemmas.List.Quantifiers.{position-Some}
 use Rattle.std.proofs.lemmas.List.Sums.{position_or_len_is}
 use Rattle.std.proofs.lemmas.Slice.Eq.{bytes_eq-Decides}
-use Rattle.std.specs.List.{position, position_or_len}
+use Rattle.std.specs.List.{position_or_len}
 use Rattle.toy_imp.specs.Block.{skip, put, if_then, while_do, for_to, let_in, par_stmt, Block, empty, stmt}
 use Rattle.pec_text.specs.declared.token.Token.{Token}
 use Rattle.pec_text.specs.declared.token.Token.TheVariants as t

@@ -2,14 +2,13 @@
 use Rattle.std.proofs.Common.{◌≡◌, ◌<◌, ℕ, List, [], ◌∷◌, ◌++◌, length, slice_index_or, Option, None, Some, option_map, sym, ◌∙◌, ap, refl, append_assoc, append-nil, subst, arith, rules, IsTrue, ◌↔◌, nat_eq, false}
 use Rattle.std.specs.Prelude.{Contains}
 use Rattle.std.proofs.lemmas.Option.{get_or_from_slice_get, slice_get_read, none-some}
-use Rattle.toy_imp.specs.Block.{skip, par_stmt, Stmt, Block, empty, stmt, append}
+use Rattle.toy_imp.specs.Block.{Stmt, Block, empty, stmt, append}
 use Rattle.toy_imp.proofs.Alikes.{append-empty, append-assoc}
 use Rattle.pec_text.specs.declared.token.Token.{Token}
 use Rattle.pec_text.specs.declared.token.Token.TheVariants as t
-use Rattle.pec_text.specs.declared.token.Word.TheVariants as w
 use Rattle.pec_text.specs.declared.token.Sign.TheVariants as s
 use Rattle.rule_reader.specs.SkipRule.{AreDifferent}
-use Rattle.rule_reader.specs.SkipReading.{Read, names_read, number_of, after_number, statements_read}
+use Rattle.rule_reader.specs.SkipReading.{Read, names_read, number_of, statements_read}
 
 -- ---- names
 abbrev pub with_names : List (List ℕ) → Read (List (List ℕ)) → Read (List (List ℕ))

@@ -1,4 +1,4 @@
-use Rattle.std.proofs.Common.{◌≡◌, ◌∷◌, sym, ap, ◌∙◌, rules}
+use Rattle.std.proofs.Common.{◌∷◌, sym, ap, ◌∙◌, rules}
 use Rattle.rule_reader.specs.SkipReading.{statements_read}
 use Rattle.rule_reader.proofs.SkipTurns.{with_statements, statements_end, with_one_statement}
 use Rattle.rule_reader.proofs.skip_reading.statements.Goals as goal
