@@ -2,6 +2,8 @@
 //! It promises nothing; the scripts of bench/ run it on the proved calls.
 #![tactic(auto)]
 
+mod diff;
+
 use pec_io::{StdSink, StdSource, read_all, write_all};
 use pec_text::sections;
 use std::env;
@@ -22,6 +24,7 @@ fn main(rt: HostRuntime) -> ExitCode {
     match words.as_slice() {
         [name] if name.as_str() == "io" => ExitCode::from(io(&rt)),
         [name] if name.as_str() == "sections" => ExitCode::from(cut(&rt)),
+        [name] if name.as_str() == "diff" => ExitCode::from(solve_systems(&rt)),
         _ => ExitCode::from(2),
     }
 }
@@ -53,5 +56,16 @@ fn cut(rt: &HostRuntime) -> u8 {
     match println!(rt; "whole {whole}\nrest {rest:?}") {
         Ok(()) => 0,
         Err(_error) => 5,
+    }
+}
+
+/// Solves the systems of rows of standard input.
+fn solve_systems(rt: &HostRuntime) -> u8 {
+    match diff::run(rt) {
+        Ok(()) => 0,
+        Err(error) => {
+            let _ = rt.eprintln(error);
+            1
+        }
     }
 }

@@ -1,0 +1,4 @@
+pub mod Row
+pub mod Cycle
+pub mod Answer
+pub mod Search

@@ -1,0 +1,4 @@
+pub mod Counting
+pub mod Listing
+pub mod Stores
+pub mod Values

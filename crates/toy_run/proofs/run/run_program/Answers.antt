@@ -1,0 +1,33 @@
+use Rattle.std.proofs.Common.{◌≡◌, ◌∙◌, ap, ap₂, arith}
+use Rattle.toy_imp.specs.Run.{before}
+use Rattle.toy_imp.specs.BlockView.{block_of}
+use Rattle.toy_run.specs.Stored.{store_of}
+use Rattle.toy_run.specs.Work.{onto, work_of}
+use Rattle.toy_run.proofs.Counting.{starts, goes_on, stops_wide, stops_spent, stops_ended}
+use Rattle.toy_run.proofs.run.run_program.Goals as goal
+
+pub loop-item-init : goal.loop-item-init
+unfolding onto
+loop-item-init c =
+    let block_is : block_of c.as_slice.result.now ≡ c.args.block.now = ap block_of c.as_slice.ensures ∙ c.block.view_is in
+    (omega arith, starts _ _ _ _ c.new-memory.ensures (c.in_ok-push_block.ensures ∙ ap₂ before block_is (ap work_of c.new-work.ensures.items)))
+
+pub returns-then-done-steps : goal.returns-then-done-steps
+returns-then-done-steps c = stops_spent c.loop-item.done c.args.steps _ _ _ _ _ _ c.if-done-steps.true c.in-Some.ensures c.loop-item.invariant.1
+
+pub returns-in-Wide : goal.returns-in-Wide
+returns-in-Wide c = (omega arith, stops_wide c.loop-item.done _ _ _ _ _ _ _ _ _ c.in-Some.ensures c.loop-item.invariant.1 c.in_ok-do_item.ensures c.in-Wide.is)
+
+pub loop-item-preserved : goal.loop-item-preserved
+loop-item-preserved c = (omega arith, goes_on c.loop-item.done _ _ _ _ _ _ _ _ _ c.in-Some.ensures c.loop-item.invariant.1 c.in_ok-do_item.ensures c.in_default-2.not-Wide)
+
+pub returns : goal.returns
+returns c = (
+  c.loop-item.invariant.0,
+  record {
+    store = store_of c.loop-item.memory.cells.entries;
+    ends = stops_ended c.loop-item.done _ _ _ _ c.in_default.ensures c.loop-item.invariant.1;
+    narrow = c.loop-item.invariant.1.narrow;
+    listed = c.in_ok-cells.ensures;
+  },
+)

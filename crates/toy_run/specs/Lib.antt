@@ -1,0 +1,9 @@
+pub mod Cells
+pub mod Does
+pub mod Memory
+pub mod Narrow
+pub mod Place
+pub mod Ran
+pub mod Stored
+pub mod Steps
+pub mod Work

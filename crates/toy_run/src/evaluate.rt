@@ -1,0 +1,171 @@
+//! Values of expressions and the truth of tests, where all their parts are narrow.
+//! `specs/Narrow.antt` says where they are; values and truth are those of the meaning of programs.
+
+ghost use Rattle.std.specs.Prelude.{◌≡◌, IfOk};
+ghost use Rattle.std.specs.Option.{SomeIff};
+ghost use Rattle.toy_imp.specs.Cell.{spelled};
+ghost use Rattle.toy_imp.specs.ExprView.{exprs_of};
+ghost use Rattle.toy_imp.specs.Truth.{truth};
+ghost use Rattle.toy_imp.specs.Value.{value, values};
+ghost use Rattle.toy_run.specs.Narrow.{NarrowExpr, NarrowExprs, NarrowTest};
+ghost use Rattle.toy_run.specs.Place.{cell_of};
+ghost use Rattle.toy_run.specs.Memory.{store_in};
+
+use crate::memory::Memory;
+use crate::place::Place;
+use sqlite_items::Items;
+use std::alloc::Global;
+use toy_imp::{Expr, ExprNode, Name, NoMemory, Test, TestNode};
+
+/// The place of a name at indices.
+pub fn place(alloc: Global, name: &Name, indices: Items<i128>) -> Result<Place, NoMemory>
+    ensures { IfOk result (λ p. cell_of p ≡ (spelled name.now, indices)) }
+{
+    let name = match name {
+        Name::Own(bytes) => Items::from_slice(alloc, bytes.as_slice())?,
+        Name::Par(_) => Items::new(alloc),
+    };
+    Ok(Place { name, indices })
+}
+
+/// The value of an expression, where all its parts are narrow.
+#[cycle(evaluate)]
+#[tactic(auto, unfolding(toy_imp::specs::Value::value, crate::specs::Narrow::NarrowExpr))]
+pub fn evaluate(alloc: Global, e: &Expr, memory: &Memory) -> Result<Option<i128>, NoMemory>
+    ensures { IfOk result (λ o. SomeIff o (NarrowExpr e.now (store_in memory.now)) (value e.now (store_in memory.now))) }
+{
+    match &e.node {
+        ExprNode::Num(z) => Ok(Some(i128::from(*z))),
+        ExprNode::At(name, indices) => {
+            let Some(indices) = evaluate_all(alloc, indices.as_slice(), memory)? else {
+                return Ok(None);
+            };
+            let place = place(alloc, name, indices)?;
+            Ok(Some(memory.read(&place)))
+        }
+        ExprNode::Add(a, b) => {
+            let Some((a, b)) = evaluate_both(alloc, a.get(), b.get(), memory)? else {
+                return Ok(None);
+            };
+            Ok(a.checked_add(b))
+        }
+        ExprNode::Sub(a, b) => {
+            let Some((a, b)) = evaluate_both(alloc, a.get(), b.get(), memory)? else {
+                return Ok(None);
+            };
+            Ok(a.checked_sub(b))
+        }
+        ExprNode::Mul(a, b) => {
+            let Some((a, b)) = evaluate_both(alloc, a.get(), b.get(), memory)? else {
+                return Ok(None);
+            };
+            Ok(a.checked_mul(b))
+        }
+        ExprNode::Par(_) => Ok(Some(0)),
+    }
+}
+
+/// The values of two expressions, where all their parts are narrow.
+#[cycle(evaluate)]
+pub fn evaluate_both(
+    alloc: Global,
+    a: &Expr,
+    b: &Expr,
+    memory: &Memory,
+) -> Result<Option<(i128, i128)>, NoMemory>
+    ensures { IfOk result (λ o. SomeIff o (NarrowExpr a.now (store_in memory.now) × NarrowExpr b.now (store_in memory.now)) (value a.now (store_in memory.now), value b.now (store_in memory.now))) }
+{
+    let Some(a) = evaluate(alloc, a, memory)? else {
+        return Ok(None);
+    };
+    let Some(b) = evaluate(alloc, b, memory)? else {
+        return Ok(None);
+    };
+    Ok(Some((a, b)))
+}
+
+/// The values of expressions, in their order, where all their parts are narrow.
+#[cycle(evaluate)]
+#[tactic(auto, using(toy_imp::specs::ExprFalls::expr_item, crate::proofs::Values::narrow_at, crate::proofs::Values::values_none, crate::proofs::Values::narrow_none))]
+pub fn evaluate_all(
+    alloc: Global,
+    es: &[Expr],
+    memory: &Memory,
+) -> Result<Option<Items<i128>>, NoMemory>
+    ensures { IfOk result (λ o. SomeIff o (NarrowExprs (exprs_of es.now) (store_in memory.now)) (values (exprs_of es.now) (store_in memory.now))) }
+{
+    let mut all = Items::new(alloc);
+    for e in es {
+        let Some(v) = evaluate(alloc, e, memory)? else {
+            return Ok(None);
+        };
+        all.push(v)?;
+    }
+    Ok(Some(all))
+}
+
+/// The truth of a test, where all its parts are narrow.
+#[cycle(is_true)]
+#[tactic(auto, unfolding(toy_imp::specs::Truth::truth, crate::specs::Narrow::NarrowTest))]
+pub fn is_true(alloc: Global, t: &Test, memory: &Memory) -> Result<Option<bool>, NoMemory>
+    ensures { IfOk result (λ o. SomeIff o (NarrowTest t.now (store_in memory.now)) (truth t.now (store_in memory.now))) }
+{
+    match &t.node {
+        TestNode::Less(a, b) => {
+            let Some((a, b)) = evaluate_both(alloc, a, b, memory)? else {
+                return Ok(None);
+            };
+            Ok(Some(a < b))
+        }
+        TestNode::LessEq(a, b) => {
+            let Some((a, b)) = evaluate_both(alloc, a, b, memory)? else {
+                return Ok(None);
+            };
+            Ok(Some(a <= b))
+        }
+        TestNode::Equal(a, b) => {
+            let Some((a, b)) = evaluate_both(alloc, a, b, memory)? else {
+                return Ok(None);
+            };
+            Ok(Some(a == b))
+        }
+        TestNode::Not(t) => {
+            let Some(t) = is_true(alloc, t.get(), memory)? else {
+                return Ok(None);
+            };
+            Ok(Some(!t))
+        }
+        TestNode::And(t, u) => {
+            let Some((t, u)) = are_true(alloc, t.get(), u.get(), memory)? else {
+                return Ok(None);
+            };
+            Ok(Some(t && u))
+        }
+        TestNode::Or(t, u) => {
+            let Some((t, u)) = are_true(alloc, t.get(), u.get(), memory)? else {
+                return Ok(None);
+            };
+            Ok(Some(t || u))
+        }
+        TestNode::Par(_) => Ok(Some(false)),
+    }
+}
+
+/// The truth of two tests, where all their parts are narrow.
+#[cycle(is_true)]
+fn are_true(
+    alloc: Global,
+    t: &Test,
+    u: &Test,
+    memory: &Memory,
+) -> Result<Option<(bool, bool)>, NoMemory>
+    ensures { IfOk result (λ o. SomeIff o (NarrowTest t.now (store_in memory.now) × NarrowTest u.now (store_in memory.now)) (truth t.now (store_in memory.now), truth u.now (store_in memory.now))) }
+{
+    let Some(t) = is_true(alloc, t, memory)? else {
+        return Ok(None);
+    };
+    let Some(u) = is_true(alloc, u, memory)? else {
+        return Ok(None);
+    };
+    Ok(Some((t, u)))
+}

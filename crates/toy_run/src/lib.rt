@@ -1,0 +1,19 @@
+//! Runs programs by their meaning, step by step and in no clever way.
+//! `run_program` answers what the definition of runs does, as `specs/Ran.antt` says, and stops where a
+//! number leaves 128 bits.
+#![tactic(auto)]
+
+mod cell;
+mod evaluate;
+mod memory;
+mod place;
+mod ran;
+mod run;
+mod step;
+#[cfg(test)]
+mod tests;
+mod work;
+
+pub use cell::Cell;
+pub use ran::Ran;
+pub use run::run_program;
