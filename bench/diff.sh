@@ -21,8 +21,8 @@ seconds() {
 
 # best FILE CMD..: the least of three such times
 best() {
-    local least=1000000 i now
-    for i in 1 2 3; do
+    local least=1000000 now
+    for _ in 1 2 3; do
         now=$(seconds "$@")
         least=$(awk -v a="$least" -v b="$now" 'BEGIN { print a < b ? a : b }')
     done
