@@ -1,6 +1,8 @@
 //! The laws that proofs about programs stand on, each the contract of a function that does nothing.
-//! The statements are in `specs/StoreLaws.antt`, `specs/RunLaws.antt` and `specs/NumberLaws.antt`.
+//! The statements are in `specs/StoreLaws.antt`, `specs/RunLaws.antt`, `specs/NumberLaws.antt` and
+//! `specs/CanonicalLaws.antt`.
 
+ghost use Rattle.toy_imp.specs.CanonicalLaws.{CanonicalExprReadsBack, CanonicalTestReadsBack, CanonicalBlockReadsBack, ReadExprIsSpellable, ReadTestIsSpellable, ReadBlockIsSpellable};
 ghost use Rattle.toy_imp.specs.NumberLaws.{ProductCommutes, ProductAssociates, ProductOfSum, SumTimes, ProductOfDifference, DifferenceTimes};
 ghost use Rattle.toy_imp.specs.RunLaws.{WorkSplits, WorkJoins, OneFinalStore, SkipIsNothing, SkipDrops, EmptyIsNothing, LaterReplaced, FrontReplaced, PartsReplaced, OpenNeverEnds};
 ghost use Rattle.toy_imp.specs.StoreLaws.{WriteIsRead, WriteKeepsOthers, AgreeingIsEqual};
@@ -98,4 +100,34 @@ pub fn product_of_difference()
 /// A difference times a number.
 pub fn difference_times()
     ensures { DifferenceTimes }
+{}
+
+/// The canonical tree of a spellable expression has that expression as its value.
+pub fn canonical_expr_reads_back()
+    ensures { CanonicalExprReadsBack }
+{}
+
+/// The canonical tree of a spellable test has that test as its value.
+pub fn canonical_test_reads_back()
+    ensures { CanonicalTestReadsBack }
+{}
+
+/// The canonical tree of a spellable block has that block as its value.
+pub fn canonical_block_reads_back()
+    ensures { CanonicalBlockReadsBack }
+{}
+
+/// An expression that is the value of a tree is spellable.
+pub fn read_expr_is_spellable()
+    ensures { ReadExprIsSpellable }
+{}
+
+/// A test that is the value of a tree, and whose test parameters are declared, is spellable.
+pub fn read_test_is_spellable()
+    ensures { ReadTestIsSpellable }
+{}
+
+/// A block that is the value of a tree, and whose test and statement parameters are declared, is spellable.
+pub fn read_block_is_spellable()
+    ensures { ReadBlockIsSpellable }
 {}

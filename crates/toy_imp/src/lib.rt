@@ -7,19 +7,29 @@
 mod block;
 mod condition;
 mod expr;
+mod faults;
+mod form;
 mod instance;
 pub mod laws;
+mod levels;
 mod name;
+mod nesting;
+#[cfg(test)]
+mod nesting_tests;
 mod no_memory;
+mod operators;
 mod param;
+mod points;
 mod rule;
 mod test;
 #[cfg(test)]
 mod tests;
+mod uses;
 
 pub use block::{Block, Stmt, StmtNode};
 pub use condition::{Condition, Region};
 pub use expr::{Expr, ExprNode};
+pub use form::{ExprForm, TestForm};
 pub use instance::{Filling, Instance};
 pub use name::Name;
 pub use no_memory::NoMemory;

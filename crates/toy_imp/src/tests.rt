@@ -131,6 +131,8 @@ fn instances_fit(rt: HostRuntime) -> Result<(), Fail> {
     let test = Filling::Test(condition(alloc)?);
     let fitting = instance(alloc, Filling::Expr(Expr::num(7)), test)?;
     assert!(rt; fitting.fits(&rule));
+    assert!(rt; !rule.well_formed());
+    assert!(rt; matches!(rule.first_fault(), Some(2)));
     let open = instance(
         alloc,
         Filling::Expr(Expr::num(7)),

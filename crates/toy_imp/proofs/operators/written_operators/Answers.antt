@@ -1,0 +1,15 @@
+use Rattle.std.proofs.Common.{arith}
+use Rattle.toy_imp.proofs.Items.{one_item, two_items, three_items}
+use Rattle.toy_imp.proofs.operators.written_operators.Goals as goal
+
+pub returns-in-len1 : goal.returns-in-len1
+returns-in-len1 c =
+    rw (one_item c.args.indices.now c.a-item.result (omega arith) (omega arith) c.a-item.is) (omega arith)
+
+pub returns-in-len2 : goal.returns-in-len2
+returns-in-len2 c =
+    rw (two_items c.args.indices.now c.a-item-then-indices-lt3.result c.b-item.result (omega arith) (omega arith) c.a-item-then-indices-lt3.is c.b-item.is) (omega arith)
+
+pub returns-in-len3-up : goal.returns-in-len3-up
+returns-in-len3-up c =
+    rw (three_items c.args.indices.now c.a-item-2.result c.b-item-2.result c.c-item.result (omega arith) c.a-item-2.is c.b-item-2.is c.c-item.is) (omega arith)
