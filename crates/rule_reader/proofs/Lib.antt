@@ -1,5 +1,17 @@
+pub mod BlockComplete
+pub mod BlockSound
+pub mod BlockTurns
+pub mod ExprComplete
+pub mod ExprSound
+pub mod GrammarTurns
+pub mod Naming
 pub mod OneSections
+pub mod ProgramAnswers
+pub mod ProgramReads
+pub mod ReadSteps
 pub mod SkipReadings
 pub mod SkipRules
 pub mod SkipSides
 pub mod SkipTurns
+pub mod TestComplete
+pub mod TestSound

@@ -1,4 +1,16 @@
+pub mod BlockParts
+pub mod BlockReading
+pub mod ExprParts
+pub mod ExprReading
 pub mod Gives
+pub mod Grammar
+pub mod ProgramReading
+pub mod Read
+pub mod RuleText
+pub mod RuleTokens
 pub mod SkipReading
 pub mod SkipRule
 pub mod SkipText
+pub mod TestReading
+pub mod TreeTokens
+pub mod Unread
