@@ -1,0 +1,12 @@
+pub mod Counts
+pub mod Exchanges
+pub mod InOrder
+pub mod LoopNests
+pub mod Pieces
+pub mod Places
+pub mod Ranges
+pub mod Refusals
+pub mod Standing
+pub mod Steps
+pub mod Unrolled
+pub mod Weights

@@ -1,0 +1,10 @@
+pub mod Products
+pub mod Making
+pub mod Weighing
+pub mod Divisors
+pub mod Sizes
+pub mod Reducing
+pub mod Walking
+pub mod Gathered
+pub mod Bounding
+pub mod Outcomes

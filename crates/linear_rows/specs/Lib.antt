@@ -1,0 +1,9 @@
+pub mod Row
+pub mod Steps
+pub mod Room
+pub mod Divisor
+pub mod Fractions
+pub mod Stage
+pub mod Lines
+pub mod Elimination
+pub mod Found

@@ -1,0 +1,16 @@
+pub mod Added
+pub mod Counts
+pub mod Least
+pub mod Order
+pub mod Parts
+pub mod Substitute
+pub mod SubstituteLaws
+pub mod Term
+pub mod TermCode
+pub mod TermFalls
+pub mod TermSize
+pub mod TermView
+pub mod Universe
+pub mod UniverseLaws
+pub mod ValueAt
+pub mod Walked

@@ -1,0 +1,12 @@
+pub mod Agreeing
+pub mod Arithmetic
+pub mod Assuming
+pub mod Conditions
+pub mod Growth
+pub mod InUse
+pub mod ReadsAndWrites
+pub mod RunsAndConditions
+pub mod SameStores
+pub mod Substituting
+pub mod Truths
+pub mod Valuing

@@ -1,0 +1,19 @@
+use Rattle.std.proofs.Common.{◌≡◌, ◌+◌, ◌*◌, max, take}
+use Rattle.toy_imp.specs.Expr.{depth, depths}
+use Rattle.toy_imp.specs.ExprView.{exprs_of}
+use Rattle.toy_imp.specs.Value.{values}
+use Rattle.toy_run.specs.Narrow.{NarrowExprs}
+use Rattle.term_run.specs.Cells.{store_by}
+use Rattle.term_run.proofs.evaluate.+evaluate.Given as goal
+
+abbrev pub decreases-evaluate : goal.decreases-evaluate
+decreases-evaluate l = 2 * depth l.e.now
+
+abbrev pub decreases-evaluate_both : goal.decreases-evaluate_both
+decreases-evaluate_both l = 2 * max (depth l.a.now) (depth l.b.now) + 1
+
+abbrev pub decreases-evaluate_all : goal.decreases-evaluate_all
+decreases-evaluate_all l = 2 * depths (exprs_of l.es.now) + 1
+
+abbrev pub invariant-evaluate_all-loop-e : goal.invariant-evaluate_all-loop-e
+invariant-evaluate_all-loop-e l = (l.all ≡ values (exprs_of (take l.e-index l.es)) (store_by l.cells)) × NarrowExprs (exprs_of (take l.e-index l.es)) (store_by l.cells)
