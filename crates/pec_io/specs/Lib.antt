@@ -2,4 +2,5 @@ pub mod Faults
 pub mod Feed
 pub mod Intake
 pub mod Reading
+pub mod Steady
 pub mod Writing

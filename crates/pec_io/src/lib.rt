@@ -9,6 +9,8 @@ mod reading;
 mod sink;
 mod source;
 mod std_streams;
+mod steady_sink;
+mod steady_source;
 mod writing;
 
 pub use failures::{Failed, NoMemory};
@@ -18,6 +20,8 @@ pub use reading::{ReadRefusal, read_all};
 pub use sink::Sink;
 pub use source::Source;
 pub use std_streams::{StdSink, StdSource};
+pub use steady_sink::SteadySink;
+pub use steady_source::SteadySource;
 pub use writing::write_all;
 
 #[cfg(test)]

@@ -3,7 +3,8 @@
 ghost use Rattle.std.specs.Prelude.{◌≤◌};
 
 use super::{
-    MemorySink, MemorySource, ReadRefusal, Source, StdSink, StdSource, read_all, write_all,
+    Failed, MemorySink, MemorySource, ReadRefusal, Source, StdSink, StdSource, SteadySink,
+    SteadySource, read_all, write_all,
 };
 use std::alloc::Global;
 use std::fs::File;
@@ -93,5 +94,19 @@ fn streams_of_the_system(rt: HostRuntime) -> Result<(), Fail> {
     let mut full = StdSink::new(fs::OpenOptions::new().write(true).open(&rt, "/dev/full")?);
     assert!(rt; write_all(&mut full, b"no room").is_err());
     assert_eq!(rt; full.faults, 1);
+    Ok(())
+}
+
+#[test]
+fn holds_what_there_is_room_for(rt: HostRuntime) -> Result<(), Fail> {
+    let alloc = rt.alloc();
+    let mut from = SteadySource::new(b"hello".to_vec(alloc)?);
+    let bytes = read_all(alloc, &mut from, 5)?;
+    assert_eq!(rt; bytes.as_slice(), b"hello".as_slice());
+    let mut to = SteadySink::new(alloc, 5)?;
+    assert_eq!(rt; write_all(&mut to, bytes.as_slice()), Ok(()));
+    assert_eq!(rt; write_all(&mut to, b"!"), Err(Failed));
+    assert_eq!(rt; to.written(), b"hello".as_slice());
+    assert_eq!(rt; to.faults(), 1);
     Ok(())
 }
