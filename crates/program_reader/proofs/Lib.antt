@@ -1,0 +1,17 @@
+pub mod BlockComplete
+pub mod BlockSound
+pub mod BlockTurns
+pub mod CanonicalIsLeast
+pub mod ExprComplete
+pub mod ExprSound
+pub mod GrammarTurns
+pub mod Indexing
+pub mod Naming
+pub mod ProgramAnswers
+pub mod ProgramReads
+pub mod ReadNames
+pub mod ReadSpellable
+pub mod ReadSteps
+pub mod RuleSpellable
+pub mod TestComplete
+pub mod TestSound

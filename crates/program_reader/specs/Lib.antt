@@ -1,0 +1,17 @@
+pub mod BlockParts
+pub mod BlockReading
+pub mod ExprParts
+pub mod ExprReading
+pub mod Grammar
+pub mod NameIndex
+pub mod OwnNames
+pub mod ProgramReading
+pub mod Read
+pub mod RuleCanonical
+pub mod RuleText
+pub mod RuleTokens
+pub mod SpellableProgram
+pub mod SpellableRule
+pub mod TestReading
+pub mod TreeTokens
+pub mod Unread
