@@ -1,0 +1,6 @@
+pub mod CanonicalForms
+pub mod CanonicalText
+pub mod PrintedRule
+pub mod ProgramText
+pub mod RuleCanonicalText
+pub mod RulePieces
