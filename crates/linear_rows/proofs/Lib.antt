@@ -8,3 +8,15 @@ pub mod Walking
 pub mod Gathered
 pub mod Bounding
 pub mod Outcomes
+pub mod Crosswise
+pub mod Each
+pub mod Lowering
+pub mod Meeting
+pub mod Valuing
+pub mod Best
+pub mod Solving
+pub mod Solved
+pub mod Columns
+pub mod Recording
+pub mod Refuting
+pub mod Recorders

@@ -50,7 +50,7 @@ multiple_is : (by : ℕ) (z a : ℤ) → multiple by z ≡ Some a → pos by *�
 multiple_is by z a is = (cond_some _ _ _ is).1
 
 -- what nothing of is divided by is no remainder
-rem_none : (sum : ℤ) (cut : ℕ) → unsigned_abs sum % cut ≡ 0 → int_rem sum (pos cut) ≡ pos 0
+pub rem_none : (sum : ℤ) (cut : ℕ) → unsigned_abs sum % cut ≡ 0 → int_rem sum (pos cut) ≡ pos 0
 rem_none (pos n) cut e = ap pos e
 rem_none (negsuc n) cut e = ap (λ r. neg_ℤ (pos r)) e
 

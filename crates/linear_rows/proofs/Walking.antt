@@ -52,7 +52,7 @@ divided_all old new cut i e le done =
     ext_get_or (pos 0) new (map (λ z. int_div z (pos cut)) old) (e ∙ sym (length-map old (λ z. int_div z (pos cut))))
     (λ k lt. done k (omega arith) ∙ sym (get_or-map (λ z. int_div z (pos cut)) old k (pos 0) (pos 0) (omega arith)))
 
-div_one : (z : ℤ) → int_div z (pos 1) ≡ z
+pub div_one : (z : ℤ) → int_div z (pos 1) ≡ z
 div_one (pos n) = ap pos (div-one n)
 div_one (negsuc n) = ap (λ m. neg_ℤ (pos m)) (div-one (suc n))
 

@@ -1,6 +1,6 @@
 -- Why row steps that check leave no point: weighed by a point, what the rows leave is not negative, and a step
 -- makes of two such numbers a third.
-use Rattle.std.proofs.Common.{◌≡◌, ℕ, zero, suc, ◌+◌, ◌<◌, ◌≤◌, ℤ, pos, neg_ℤ, ◌+ℤ◌, ◌-ℤ◌, ◌*ℤ◌, ◌≤ℤ◌, ◌<ℤ◌, ◌-◌, List, [], ◌∷◌, ◌++◌, length, All, Option, Some, None, true, false, arith, refl, sym, ap, ◌∙◌, get_or, ⊎_elim}
+use Rattle.std.proofs.Common.{◌≡◌, ℕ, zero, suc, ◌+◌, ◌<◌, ℤ, pos, neg_ℤ, ◌+ℤ◌, ◌-ℤ◌, ◌*ℤ◌, ◌≤ℤ◌, ◌<ℤ◌, ◌-◌, List, [], ◌∷◌, ◌++◌, length, All, Option, Some, None, true, arith, refl, sym, ap, ◌∙◌, get_or, ⊎_elim}
 use Rattle.std.specs.Prelude.{int_lt}
 use Rattle.std.specs.Option.{option_and_then, unwrap_or}
 use Rattle.std.specs.List.{last_or, list_any, list_all}
@@ -15,8 +15,9 @@ use Rattle.linear_rows.specs.declared.row.Row.{Row}
 use Rattle.linear_rows.specs.declared.step.RowStep.{RowStep}
 use Rattle.linear_rows.specs.Row.{Point, products, IsMet, HaveNoSolution, IsRowOver}
 use Rattle.linear_rows.specs.Steps.{number_in, column_of, made, column_by, last_by, is_contradiction, MakeContradiction, AreRefutation}
-use Rattle.linear_rows.proofs.Products.{sum_times, product_of_sum, product_commutes, first_exchanged, times_not_negative, not_negative_by}
+use Rattle.linear_rows.proofs.Products.{product_of_sum, product_commutes, first_exchanged, times_not_negative, not_negative_by}
 use Rattle.linear_rows.proofs.Making.{Makes, makes}
+use Rattle.linear_rows.proofs.Crosswise.{neg_times}
 
 -- the sum of the weights times the numbers
 abbrev pub weighed : List ℤ → (ℕ → ℤ) → ℤ
@@ -56,14 +57,6 @@ weighed_step (w ∷ ws) c b t f g h each =
     let left = product_of_sum c (w *ℤ f zero) (weighed ws (λ j. f (suc j))) in
     let first = product_of_sum b (w *ℤ g zero) (weighed ws (λ j. g (suc j))) in
     let second = product_of_sum t (w *ℤ h zero) (weighed ws (λ j. h (suc j))) in
-    omega (arith, ints)
-
--- a factor's sign is the product's
-neg_times : (a b : ℤ) → neg_ℤ a *ℤ b ≡ neg_ℤ (a *ℤ b)
-neg_times a b =
-    let sum = sum_times a (neg_ℤ a) b in
-    let none : a +ℤ neg_ℤ a ≡ pos 0 = omega (arith, ints) in
-    let zero_is : (a +ℤ neg_ℤ a) *ℤ b ≡ pos 0 = ap (λ z. z *ℤ b) none ∙ product_commutes (pos 0) b ∙ omega (arith, ints) in
     omega (arith, ints)
 
 products_none : (cs : List ℤ) → products cs [] ≡ pos 0

@@ -7,3 +7,5 @@ pub mod Stage
 pub mod Lines
 pub mod Elimination
 pub mod Found
+pub mod Solution
+pub mod Recorded

@@ -1,23 +1,22 @@
 //! Fourier-Motzkin elimination by stages (Motzkin 1936): the first variable is eliminated, the rest solved,
 //! and then the first variable gets its value. `specs/Elimination.antt` says what that comes to.
 
-ghost use Rattle.std.specs.Prelude.{◌≡◌, ◌≤◌, ◌+◌, [], All, IfOk, OnOk, is_some};
+ghost use Rattle.std.specs.Prelude.{◌≡◌, ◌≤◌, ◌+◌, [], All, IfOk, IfSome, OnOk, is_some};
 ghost use Rattle.std.specs.List.{list_any};
 ghost use Rattle.linear_rows.specs.Row.{IsRowOver};
 ghost use Rattle.linear_rows.specs.Stage.{line_of, is_never_met, next_lines, IsSmall};
 ghost use Rattle.linear_rows.specs.Lines.{items_of, lines_of, Gathers};
 ghost use Rattle.linear_rows.specs.Elimination.{Outcome, eliminated, outcome_of, with_first, IsEliminated, Refutes};
-ghost use Rattle.linear_rows.specs.Steps.{AreRefutation};
+ghost use Rattle.linear_rows.specs.Solution.{MeetsRows};
 ghost use Rattle.linear_rows.specs.Found.{IsNext, IsFirst, gathered_by, IsFound, IsProperFound};
+ghost use Rattle.linear_rows.specs.Recorded.{RecordsAll, RecordsFirst, RecordsGathered, RecordsFound, StaysFound, IsNumberOfNever, Shows, Answers};
 
 use crate::answer::{RowKind, RowMark, Rows};
 use crate::fraction::Fraction;
-use crate::gathering::{take_cancelled, take_kept, take_rows};
+use crate::gathering::{number_at, take_cancelled, take_kept, take_rows};
 use crate::line::is_never_met;
-use crate::multipliers::check_multipliers;
 use crate::no_memory::NoMemory;
 use crate::record::Record;
-use crate::room::RowRoom;
 use crate::row::Row;
 use crate::stage::Stage;
 use crate::step::RowStep;
@@ -46,7 +45,8 @@ pub enum Found {
 }
 
 /// Eliminates the variables of the rows in order. The answer is just what the elimination comes to, with its
-/// first limit; the row steps of `Empty` check, so nothing meets the rows.
+/// first limit; the row steps of `Empty` check, so nothing meets the rows, and a `Point` has a fraction for each
+/// variable, in lowest terms, and meets every row.
 /// There are `n` variables, at most 64; each row has `n` coefficients, and numbers of magnitude at most
 /// 2^62. `Err` comes where memory runs out; 2^32 rows and steps are more than there is memory for.
 pub fn feasible(alloc: Global, n: u32, rows: &[Row]) -> Result<Rows, NoMemory>
@@ -54,6 +54,7 @@ pub fn feasible(alloc: Global, n: u32, rows: &[Row]) -> Result<Rows, NoMemory>
     requires rows { All (IsRowOver n) rows.now }
     ensures exact { IfOk result (IsEliminated n rows.now) }
     ensures refutes { IfOk result (Refutes rows.now) }
+    ensures meets { IfOk result (MeetsRows n rows.now) }
 {
     eliminate(alloc, n, rows)
 }
@@ -64,61 +65,32 @@ fn eliminate(alloc: Global, n: u32, rows: &[Row]) -> Result<Rows, NoMemory>
     requires rows { All (IsRowOver n) rows.now }
     ensures { IfOk result (IsEliminated n rows.now) }
 {
-    let mut record = Record::new(alloc, rows.len());
-    match first_stage(alloc, rows, &mut record)? {
+    let mut history = Record::new(alloc, rows.len());
+    match first_stage(alloc, rows, &mut history)? {
         Gathered::Passed(what) => Ok(Rows::Limit(RowMark { stage: 0, what })),
         Gathered::Whole(stage) => {
-            let found = outcome(alloc, n, 0, &stage, &mut record)?;
-            answer(alloc, n, rows, found, record)
+            let found = outcome(alloc, n, 0, &stage, &mut history)?;
+            Ok(answer(found, history))
         }
     }
 }
 
 /// The answer to the rows by what stage 0 comes to.
-fn answer(
-    alloc: Global,
-    n: u32,
-    rows: &[Row],
-    found: Found,
-    record: Record,
-) -> Result<Rows, NoMemory>
-    requires few { n ≤ 64 }
-    requires rows { All (IsRowOver n) rows.now }
-    requires found { IsFound (eliminated n rows.now) found }
-    ensures { IfOk result (IsEliminated n rows.now) }
+fn answer(found: Found, history: Record) -> Rows
+    ensures { Answers history found result }
 {
     match found {
-        Found::Limit(mark) => Ok(Rows::Limit(mark)),
-        Found::Point(xs) => Ok(Rows::Point(Items::from_vec(xs))),
-        Found::Never(number) => {
-            let steps = refutation(alloc, n, rows, number, record)?;
-            Ok(Rows::Empty(steps))
-        }
+        Found::Limit(mark) => Rows::Limit(mark),
+        Found::Point(xs) => Rows::Point(Items::from_vec(xs)),
+        Found::Never(number) => Rows::Empty(refutation(number, history)),
     }
 }
 
-/// The steps that make the row of this number, once they are seen to check.
-fn refutation(
-    alloc: Global,
-    n: u32,
-    rows: &[Row],
-    number: u32,
-    record: Record,
-) -> Result<Items<RowStep>, NoMemory>
-    requires few { n ≤ 64 }
-    requires rows { All (IsRowOver n) rows.now }
-    ensures { IfOk result (AreRefutation n rows.now) }
+/// The steps that make the row of this number.
+fn refutation(number: u32, history: Record) -> Items<RowStep>
+    ensures { Shows history number result }
 {
-    let steps = record.steps_to(number);
-    let Ok(count) = u32::try_from(steps.len()) else {
-        return Err(NoMemory);
-    };
-    let mut room = RowRoom::new(alloc, n, count)?;
-    if check_multipliers(n, rows, &steps, &mut room) {
-        Ok(Items::from_vec(steps))
-    } else {
-        Err(NoMemory)
-    }
+    Items::from_vec(history.steps_to(number))
 }
 
 /// What a stage comes to, of which `n` variables are left.
@@ -127,11 +99,12 @@ fn outcome(
     n: u32,
     k: u32,
     stage: &Stage,
-    record: &mut Record,
+    history: &mut Record,
 ) -> Result<Found, NoMemory>
     requires few { k + n ≤ 64 }
     requires small { All IsSmall (lines_of stage.now) }
-    ensures { IfOk result (IsFound (outcome_of n k (lines_of stage.now))) }
+    ensures found { IfOk result (IsFound (outcome_of n k (lines_of stage.now))) }
+    ensures recorded { IfOk result (RecordsFound n k stage.now history.old history.new) }
 {
     if let Some(number) = never_met(stage.lines.as_slice(), &stage.numbers) {
         return Ok(Found::Never(number));
@@ -139,10 +112,10 @@ fn outcome(
     if n == 0 {
         return Ok(Found::Point(Vec::new(alloc)));
     }
-    match next_stage(alloc, stage, record)? {
+    match next_stage(alloc, stage, history)? {
         Gathered::Passed(what) => Ok(Found::Limit(RowMark { stage: k + 1, what })),
         Gathered::Whole(next) => {
-            let found = outcome(alloc, n - 1, k + 1, &next, record)?;
+            let found = outcome(alloc, n - 1, k + 1, &next, history)?;
             with_first(k, stage.lines.as_slice(), found)
         }
     }
@@ -150,11 +123,12 @@ fn outcome(
 
 /// The number of the first line that is never met.
 fn never_met(lines: &[Vec<i128>], numbers: &[u32]) -> Option<u32>
-    ensures { is_some result ≡ list_any is_never_met (items_of lines.now) }
+    ensures found { is_some result ≡ list_any is_never_met (items_of lines.now) }
+    ensures number { IfSome result (IsNumberOfNever numbers.now (items_of lines.now)) }
 {
     for (i, line) in lines.iter().enumerate() {
         if is_never_met(line) {
-            return Some(numbers.get(i).copied().unwrap_or(0));
+            return Some(number_at(numbers, i));
         }
     }
     None
@@ -164,7 +138,8 @@ fn never_met(lines: &[Vec<i128>], numbers: &[u32]) -> Option<u32>
 fn with_first(k: u32, lines: &[Vec<i128>], found: Found) -> Result<Found, NoMemory>
     requires small { All IsSmall (items_of lines.now) }
     requires proper { IsProperFound found }
-    ensures { IfOk result (λ more. (o : Outcome) → IsFound o found → IsFound (with_first k (items_of lines.now) o) more) }
+    ensures found { IfOk result (λ more. (o : Outcome) → IsFound o found → IsFound (with_first k (items_of lines.now) o) more) }
+    ensures stays { IfOk result (StaysFound found) }
 {
     let Found::Point(xs) = found else {
         return Ok(found);
@@ -183,12 +158,13 @@ fn with_first(k: u32, lines: &[Vec<i128>], found: Found) -> Result<Found, NoMemo
 }
 
 /// The stage after another.
-fn next_stage(alloc: Global, stage: &Stage, record: &mut Record) -> Result<Gathered, NoMemory>
+fn next_stage(alloc: Global, stage: &Stage, history: &mut Record) -> Result<Gathered, NoMemory>
     requires { All IsSmall (lines_of stage.now) }
-    ensures { IfOk result (IsNext (lines_of stage.now)) }
+    ensures next { IfOk result (IsNext (lines_of stage.now)) }
+    ensures recorded { IfOk result (RecordsGathered stage.now history.old history.new) }
 {
     let mut next = Stage::new(alloc);
-    let what = take_next(alloc, stage, &mut next, record)?;
+    let what = take_next(alloc, stage, &mut next, history)?;
     Ok(gathered_by(next, what))
 }
 
@@ -197,28 +173,30 @@ fn take_next(
     alloc: Global,
     stage: &Stage,
     next: &mut Stage,
-    record: &mut Record,
+    history: &mut Record,
 ) -> Result<Option<RowKind>, NoMemory>
     requires lines { All IsSmall (lines_of stage.now) }
     requires empty { lines_of next.old ≡ [] }
     ensures gathered { IfOk result (Gathers [] (next_lines (lines_of stage.now)) (lines_of next.new)) }
     ensures small { OnOk result (All IsSmall (lines_of next.new)) }
+    ensures recorded { OnOk result (RecordsAll stage.now.numbers.items (lines_of stage.now) history.old next.old history.new next.new) }
 {
     let lines = stage.lines.as_slice();
-    let what = take_kept(alloc, lines, &stage.numbers, next, record)?;
+    let what = take_kept(alloc, lines, &stage.numbers, next, history)?;
     if what.is_some() {
         return Ok(what);
     }
-    take_cancelled(alloc, lines, &stage.numbers, next, record)
+    take_cancelled(alloc, lines, &stage.numbers, next, history)
 }
 
 /// The stage that the rows make.
-fn first_stage(alloc: Global, rows: &[Row], record: &mut Record) -> Result<Gathered, NoMemory>
+fn first_stage(alloc: Global, rows: &[Row], history: &mut Record) -> Result<Gathered, NoMemory>
     requires { All (λ row. IsSmall (line_of row)) rows.now }
-    ensures { IfOk result (IsFirst rows.now) }
+    ensures first { IfOk result (IsFirst rows.now) }
+    ensures recorded { IfOk result (RecordsFirst rows.now history.old history.new) }
 {
     let mut stage = Stage::new(alloc);
-    let what = take_rows(alloc, rows, &mut stage, record)?;
+    let what = take_rows(alloc, rows, &mut stage, history)?;
     Ok(gathered_by(stage, what))
 }
 

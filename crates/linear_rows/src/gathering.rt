@@ -1,9 +1,10 @@
 //! What a stage is made from: the rows, or the lines of the stage before it.
 //! `specs/Stage.antt` has the order of the lines; the first that passes a limit ends the work.
 
-ghost use Rattle.std.specs.Prelude.{◌≡◌, ◌≤◌, ◌<◌, ◌^◌, pos, true, [], ◌∷◌, map, unsigned_abs, All, IfOk, OnOk};
+ghost use Rattle.std.specs.Prelude.{◌≡◌, ◌≤◌, ◌<◌, ◌^◌, pos, true, [], ◌∷◌, map, unsigned_abs, slice_index_or, All, IfOk, OnOk};
 ghost use Rattle.linear_rows.specs.Stage.{line_of, first, is_lower, without_first, mixed, kept_lines, cancelled_lines, sums_of, sums_with, multiplier, IsSmall, IsWide};
 ghost use Rattle.linear_rows.specs.Lines.{items_of, lines_of, Gathers};
+ghost use Rattle.linear_rows.specs.Recorded.{RecordsLine, RecordsRows, RecordsNext, RecordsSum, RecordsSums, RecordsAll};
 
 use crate::answer::RowKind;
 use crate::divisor::divisor;
@@ -20,15 +21,16 @@ pub fn take_rows(
     alloc: Global,
     rows: &[Row],
     stage: &mut Stage,
-    record: &mut Record,
+    history: &mut Record,
 ) -> Result<Option<RowKind>, NoMemory>
     requires rows { All (λ row. IsSmall (line_of row)) rows.now }
     requires small { All IsSmall (lines_of stage.old) }
     ensures gathered { IfOk result (Gathers (lines_of stage.old) (map line_of rows.now) (lines_of stage.new)) }
     ensures small { OnOk result (All IsSmall (lines_of stage.new)) }
+    ensures recorded { OnOk result (RecordsRows rows.now history.old stage.old history.new stage.new) }
 {
     for (i, row) in rows.iter().enumerate() {
-        let what = take_row(alloc, row, i, stage, record)?;
+        let what = take_row(alloc, row, i, stage, history)?;
         if what.is_some() {
             return Ok(what);
         }
@@ -42,18 +44,19 @@ fn take_row(
     row: &Row,
     i: usize,
     stage: &mut Stage,
-    record: &mut Record,
+    history: &mut Record,
 ) -> Result<Option<RowKind>, NoMemory>
     requires row { IsSmall (line_of row.now) }
     requires small { All IsSmall (lines_of stage.old) }
     ensures gathered { IfOk result (Gathers (lines_of stage.old) (line_of row.now ∷ []) (lines_of stage.new)) }
     ensures small { OnOk result (All IsSmall (lines_of stage.new)) }
+    ensures recorded { OnOk result (RecordsLine i (line_of row.now) history.old stage.old history.new stage.new) }
 {
     let Ok(number) = u32::try_from(i) else {
         return Err(NoMemory);
     };
     let line = line_of(alloc, row)?;
-    stage.take(line, same_row(number), record)
+    stage.take(line, same_row(number), history)
 }
 
 /// Takes each line in which the first variable does not stand.
@@ -62,15 +65,16 @@ pub fn take_kept(
     lines: &[Vec<i128>],
     numbers: &[u32],
     next: &mut Stage,
-    record: &mut Record,
+    history: &mut Record,
 ) -> Result<Option<RowKind>, NoMemory>
     requires lines { All IsSmall (items_of lines.now) }
     requires small { All IsSmall (lines_of next.old) }
     ensures gathered { IfOk result (Gathers (lines_of next.old) (kept_lines (items_of lines.now)) (lines_of next.new)) }
     ensures small { OnOk result (All IsSmall (lines_of next.new)) }
+    ensures recorded { OnOk result (RecordsAll numbers.now (items_of lines.now) history.old next.old history.new next.new) }
 {
     for (i, line) in lines.iter().enumerate() {
-        let what = take_kept_line(alloc, line, number_at(numbers, i), next, record)?;
+        let what = take_kept_line(alloc, line, number_at(numbers, i), next, history)?;
         if what.is_some() {
             return Ok(what);
         }
@@ -84,22 +88,25 @@ fn take_kept_line(
     line: &[i128],
     number: u32,
     next: &mut Stage,
-    record: &mut Record,
+    history: &mut Record,
 ) -> Result<Option<RowKind>, NoMemory>
     requires line { IsSmall line.now }
     requires small { All IsSmall (lines_of next.old) }
     ensures gathered { IfOk result (Gathers (lines_of next.old) (kept_lines (line.now ∷ [])) (lines_of next.new)) }
     ensures small { OnOk result (All IsSmall (lines_of next.new)) }
+    ensures recorded { OnOk result (RecordsNext number line.now history.old next.old history.new next.new) }
 {
     if first(line) != 0 {
         return Ok(None);
     }
     let rest = without_first(alloc, line)?;
-    next.take(rest, same_row(number), record)
+    next.take(rest, same_row(number), history)
 }
 
 /// The number of a line's row.
-fn number_at(numbers: &[u32], i: usize) -> u32 {
+pub fn number_at(numbers: &[u32], i: usize) -> u32
+    ensures { result ≡ slice_index_or numbers.now i 0 }
+{
     numbers.get(i).copied().unwrap_or(0)
 }
 
@@ -109,16 +116,17 @@ pub fn take_cancelled(
     lines: &[Vec<i128>],
     numbers: &[u32],
     next: &mut Stage,
-    record: &mut Record,
+    history: &mut Record,
 ) -> Result<Option<RowKind>, NoMemory>
     requires lines { All IsSmall (items_of lines.now) }
     requires small { All IsSmall (lines_of next.old) }
     ensures gathered { IfOk result (Gathers (lines_of next.old) (cancelled_lines (items_of lines.now)) (lines_of next.new)) }
     ensures small { OnOk result (All IsSmall (lines_of next.new)) }
+    ensures recorded { OnOk result (RecordsAll numbers.now (items_of lines.now) history.old next.old history.new next.new) }
 {
     for (i, p) in lines.iter().enumerate() {
         let number = number_at(numbers, i);
-        let what = take_sums(alloc, p, number, lines, numbers, next, record)?;
+        let what = take_sums(alloc, p, number, lines, numbers, next, history)?;
         if what.is_some() {
             return Ok(what);
         }
@@ -135,18 +143,19 @@ fn take_sums(
     lines: &[Vec<i128>],
     numbers: &[u32],
     next: &mut Stage,
-    record: &mut Record,
+    history: &mut Record,
 ) -> Result<Option<RowKind>, NoMemory>
     requires first { IsSmall p.now }
     requires lines { All IsSmall (items_of lines.now) }
     requires small { All IsSmall (lines_of next.old) }
     ensures gathered { IfOk result (Gathers (lines_of next.old) (sums_with (items_of lines.now) (p.now ∷ [])) (lines_of next.new)) }
     ensures small { OnOk result (All IsSmall (lines_of next.new)) }
+    ensures recorded { OnOk result (RecordsSums number p.now numbers.now (items_of lines.now) history.old next.old history.new next.new) }
 {
     if !is_lower(p) {
         return Ok(None);
     }
-    take_all_sums(alloc, p, number, lines, numbers, next, record)
+    take_all_sums(alloc, p, number, lines, numbers, next, history)
 }
 
 /// Takes the sums of a lower bound with each upper bound.
@@ -157,7 +166,7 @@ fn take_all_sums(
     lines: &[Vec<i128>],
     numbers: &[u32],
     next: &mut Stage,
-    record: &mut Record,
+    history: &mut Record,
 ) -> Result<Option<RowKind>, NoMemory>
     requires lower { is_lower p.now ≡ true }
     requires first { IsSmall p.now }
@@ -165,10 +174,11 @@ fn take_all_sums(
     requires small { All IsSmall (lines_of next.old) }
     ensures gathered { IfOk result (Gathers (lines_of next.old) (sums_of p.now (items_of lines.now)) (lines_of next.new)) }
     ensures small { OnOk result (All IsSmall (lines_of next.new)) }
+    ensures recorded { OnOk result (RecordsSums number p.now numbers.now (items_of lines.now) history.old next.old history.new next.new) }
 {
     for (i, q) in lines.iter().enumerate() {
         let other = number_at(numbers, i);
-        let what = take_sum(alloc, p, number, q, other, next, record)?;
+        let what = take_sum(alloc, p, number, q, other, next, history)?;
         if what.is_some() {
             return Ok(what);
         }
@@ -185,7 +195,7 @@ fn take_sum(
     q: &[i128],
     other: u32,
     next: &mut Stage,
-    record: &mut Record,
+    history: &mut Record,
 ) -> Result<Option<RowKind>, NoMemory>
     requires lower { is_lower p.now ≡ true }
     requires first { IsSmall p.now }
@@ -193,6 +203,7 @@ fn take_sum(
     requires small { All IsSmall (lines_of next.old) }
     ensures gathered { IfOk result (Gathers (lines_of next.old) (sums_of p.now (q.now ∷ [])) (lines_of next.new)) }
     ensures small { OnOk result (All IsSmall (lines_of next.new)) }
+    ensures recorded { OnOk result (RecordsSum number p.now other q.now history.old next.old history.new next.new) }
 {
     if !is_upper(q) {
         return Ok(None);
@@ -207,7 +218,7 @@ fn take_sum(
         times,
         cut: 1,
     };
-    next.take(sum, step, record)
+    next.take(sum, step, history)
 }
 
 /// How often a line is taken, so that the other one's first coefficient is cancelled: the magnitude of that

@@ -1,7 +1,7 @@
 //! Linear rows over fractions: a point that meets them, row steps that show why there is none, or a limit.
 //! `feasible` answers by Fourier-Motzkin elimination, and `check_multipliers` says exactly which row steps
-//! show that nothing meets the rows. `specs/Row.antt`, `specs/Steps.antt` and `specs/Elimination.antt` say
-//! what that means.
+//! show that nothing meets the rows. `specs/Row.antt`, `specs/Steps.antt`, `specs/Elimination.antt` and
+//! `specs/Solution.antt` say what that means.
 #![tactic(auto)]
 
 mod answer;

@@ -1,4 +1,8 @@
-//! The record of the steps that made the lines of all stages.
+//! The record of the steps that made the lines of all stages. `specs/Recorded.antt` says what it knows of them:
+//! the row that a step makes has a number, and keeps it.
+
+ghost use Rattle.std.specs.Prelude.{◌≡◌, ◌+◌, ◌-◌, [], IfOk, take};
+ghost use Rattle.linear_rows.specs.Recorded.{same_row, Numbers};
 
 use crate::no_memory::NoMemory;
 use crate::step::RowStep;
@@ -15,7 +19,10 @@ pub struct Record {
 
 impl Record {
     /// No step yet.
-    pub fn new(alloc: Global, given: usize) -> Record {
+    pub fn new(alloc: Global, given: usize) -> Record
+        ensures given { result.given ≡ given }
+        ensures steps { result.steps.items ≡ [] }
+    {
         Record {
             given,
             steps: Vec::new(alloc),
@@ -23,7 +30,9 @@ impl Record {
     }
 
     /// The number of the row that a step makes. A step that changes nothing is not recorded.
-    pub fn number_of(&mut self, step: RowStep) -> Result<u32, NoMemory> {
+    pub fn number_of(&mut self, step: RowStep) -> Result<u32, NoMemory>
+        ensures { IfOk result (Numbers self.old step self.new) }
+    {
         if step.by == 1 && step.times == 0 && step.cut == 1 {
             return Ok(step.first);
         }
@@ -36,7 +45,9 @@ impl Record {
     }
 
     /// The steps up to the one that makes the row of this number.
-    pub fn steps_to(self, number: u32) -> Vec<RowStep> {
+    pub fn steps_to(self, number: u32) -> Vec<RowStep>
+        ensures { result.items ≡ take (number + 1 - self.given) self.steps.items }
+    {
         let Record { given, mut steps } = self;
         steps.truncate((number as usize).saturating_add(1).saturating_sub(given));
         steps
@@ -44,7 +55,9 @@ impl Record {
 }
 
 /// The step that leaves a row as it is.
-pub fn same_row(number: u32) -> RowStep {
+pub fn same_row(number: u32) -> RowStep
+    ensures { result ≡ same_row number }
+{
     RowStep {
         first: number,
         by: 1,

@@ -7,6 +7,7 @@ ghost use Rattle.std.specs.Ordering.{int_eq};
 ghost use Rattle.std.specs.Cmp.Lexicographic.{pointwise};
 ghost use Rattle.linear_rows.specs.Stage.{is_dropped, cut_of, lowest, IsSmall, IsWide};
 ghost use Rattle.linear_rows.specs.Lines.{lines_of, Takes, Gathers};
+ghost use Rattle.linear_rows.specs.Recorded.{RecordsStep};
 
 use crate::answer::RowKind;
 use crate::line::{are_small, is_always_met, lower};
@@ -31,7 +32,8 @@ pub struct Stage {
 impl Stage {
     /// No line yet.
     pub fn new(alloc: Global) -> Stage
-        ensures { lines_of result ≡ [] }
+        ensures lines { lines_of result ≡ [] }
+        ensures numbers { result.numbers.items ≡ [] }
     {
         Stage {
             lines: IndexSet::new(alloc),
@@ -51,16 +53,17 @@ impl Stage {
         &mut self,
         line: Vec<i128>,
         step: RowStep,
-        record: &mut Record,
+        history: &mut Record,
     ) -> Result<Option<RowKind>, NoMemory>
         requires wide { IsWide line.items }
         requires small { All IsSmall (lines_of self.old) }
         ensures gathered { IfOk result (Gathers (lines_of self.old) (line.items ∷ []) (lines_of self.new)) }
         ensures small { OnOk result (All IsSmall (lines_of self.new)) }
+        ensures recorded { OnOk result (step.cut ≡ 1 → RecordsStep step line.items history.old self.old history.new self.new) }
     {
         let mut line = line;
         let cut = lower_line(&mut line);
-        self.take_lowest(line, RowStep { cut, ..step }, record)
+        self.take_lowest(line, RowStep { cut, ..step }, history)
     }
 
     /// Takes a line in lowest terms, or names the limit that it passes.
@@ -68,11 +71,12 @@ impl Stage {
         &mut self,
         line: Vec<i128>,
         step: RowStep,
-        record: &mut Record,
+        history: &mut Record,
     ) -> Result<Option<RowKind>, NoMemory>
         requires { All IsSmall (lines_of self.old) }
         ensures taken { IfOk result (Takes (lines_of self.old) line.items (lines_of self.new)) }
         ensures small { OnOk result (All IsSmall (lines_of self.new)) }
+        ensures recorded { OnOk result (RecordsStep step line.items history.old self.old history.new self.new) }
     {
         if self.drops(&line) {
             return Ok(None);
@@ -83,7 +87,7 @@ impl Stage {
         if !are_small(&line) {
             return Ok(Some(RowKind::Coefficient));
         }
-        let number = record.number_of(step)?;
+        let number = history.number_of(step)?;
         self.add(line, number)?;
         Ok(None)
     }
@@ -91,7 +95,8 @@ impl Stage {
     /// Puts a line that is not there yet at the end.
     fn add(&mut self, line: Vec<i128>, number: u32) -> Result<(), NoMemory>
         requires { list_any (pointwise int_eq line.items) (lines_of self.old) ≡ false }
-        ensures { OnOk result (lines_of self.new ≡ lines_of self.old ++ line.items ∷ []) }
+        ensures lines { OnOk result (lines_of self.new ≡ lines_of self.old ++ line.items ∷ []) }
+        ensures numbers { OnOk result (self.new.numbers.items ≡ self.old.numbers.items ++ number ∷ []) }
     {
         self.numbers.push(number)?;
         let _added = self.lines.insert(line)?;

@@ -1,10 +1,12 @@
 use Rattle.std.proofs.Common.{◌≡◌, All, drop}
 use Rattle.linear_rows.specs.Stage.{sums_of, gathered, IsSmall}
 use Rattle.linear_rows.specs.Lines.{items_of, lines_of}
+use Rattle.linear_rows.specs.Recorded.{RecordsSums}
 use Rattle.linear_rows.proofs.gathering.take_all_sums.Given as goal
 
 abbrev pub invariant-loop-i : goal.invariant-loop-i
 invariant-loop-i l = record {
   rest : gathered (lines_of l.fn.next) (sums_of l.p (items_of l.lines)) ≡ gathered (lines_of l.next) (sums_of l.p (items_of (drop l.i l.lines)));
   small : All IsSmall (lines_of l.next);
+  recorded : RecordsSums l.number l.p l.numbers (items_of l.lines) l.fn.history l.fn.next l.history l.next;
 }

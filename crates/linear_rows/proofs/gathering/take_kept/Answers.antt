@@ -1,9 +1,10 @@
-use Rattle.std.proofs.Common.{◌≡◌, ℤ, get_or, sym, ap, ◌∙◌}
+use Rattle.std.proofs.Common.{◌≡◌, ℤ, get_or, refl, sym, ap, ◌∙◌}
 use Rattle.std.specs.declared.vec.Vec.{Vec}
 use Rattle.std.specs.declared.alloc.Global.{Global}
 use Rattle.linear_rows.specs.Stage.{without_first}
-use Rattle.linear_rows.specs.Lines.{lines_of}
+use Rattle.linear_rows.specs.Lines.{items_of, lines_of}
 use Rattle.linear_rows.proofs.Gathered.{item_small, walk_goes_on, walk_stops, selected, selected_each, is_kept}
+use Rattle.linear_rows.proofs.Recorders.{all_next, all_same}
 use Rattle.linear_rows.proofs.gathering.take_kept.Goals as goal
 
 pub take_kept_line-requires-clause-line : goal.take_kept_line-requires-clause-line
@@ -27,4 +28,16 @@ loop-i-preserved c =
       rest = walk_goes_on (selected without_first is_kept) (selected_each without_first is_kept) c.args.lines.now c.loop-i.i d _ (lines_of c.loop-i.next) (lines_of c.take_kept_line.new.next) c.in_ok-what.what
           c.loop-i-test.true (sym c.is_some.ensures ∙ c.if-is_some.false) c.loop-i.invariant.rest (rw line_is at c.in_ok-what.ensures.gathered);
       small = c.in_ok-what.ensures.small;
+      recorded = all_next c.args.numbers.now c.args.lines.now c.loop-i.i d c.number_at.result c.deref.result.now c.args.history.now c.loop-i.history c.take_kept_line.new.history c.args.next.now c.loop-i.next c.take_kept_line.new.next
+          c.loop-i-test.true c.number_at.ensures line_is c.loop-i.invariant.recorded c.in_ok-what.ensures.recorded;
     }
+
+pub returns-then-is_some-clause-recorded : goal.returns-then-is_some-clause-recorded
+returns-then-is_some-clause-recorded c =
+    let d = c.index-lines-i.result in
+    let line_is : c.deref.result.now ≡ (get_or c.args.lines.now c.loop-i.i d).items = c.deref.ensures.value ∙ ap (λ (v : Vec ℤ Global). v.items) c.index-lines-i.is in
+    all_next c.args.numbers.now c.args.lines.now c.loop-i.i d c.number_at.result c.deref.result.now c.args.history.now c.loop-i.history c.take_kept_line.new.history c.args.next.now c.loop-i.next c.take_kept_line.new.next
+    c.loop-i-test.true c.number_at.ensures line_is c.loop-i.invariant.recorded c.in_ok-what.ensures.recorded
+
+pub loop-i-init : goal.loop-i-init
+loop-i-init c = record { rest = refl; small = c.requires.small; recorded = all_same c.args.numbers.now (items_of c.args.lines.now) c.args.history.now c.args.next.now }
