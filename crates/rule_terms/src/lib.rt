@@ -16,8 +16,6 @@ mod size;
 mod tally;
 mod term;
 mod term_universe;
-#[cfg(test)]
-mod tests;
 
 pub use expression::{number_of, value_at, values_at};
 pub use obligation::{Atom, Conjunct, Literal, Obligation, copy_conjuncts, copy_literals};

@@ -1,0 +1,3 @@
+pub mod Preconditions
+pub mod Replacing
+pub mod Weighing

@@ -1,0 +1,2 @@
+pub mod Precondition
+pub mod Weight

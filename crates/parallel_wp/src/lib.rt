@@ -1,0 +1,10 @@
+//! The precondition of a conjunct before a pair of paths, one on each side: what has to be true at a pair of
+//! stores so that the conjunct is true where both paths arrive (weakest preconditions, after Dijkstra, of two
+//! runs at once). `specs/Precondition.antt` says what it is, and what it means.
+#![tactic(auto)]
+
+mod precondition;
+mod substitution;
+mod weight;
+
+pub use precondition::{before, precondition_means, weigh};
