@@ -1,0 +1,17 @@
+pub mod Citing
+pub mod Clauses
+pub mod ConditionClauses
+pub mod Each
+pub mod Examples
+pub mod Lists
+pub mod Meant
+pub mod NumberClauses
+pub mod Pairs
+pub mod Refuting
+pub mod Replacing
+pub mod Same
+pub mod Soundness
+pub mod Standing
+pub mod Stepping
+pub mod Summing
+pub mod WriteClauses

@@ -1,0 +1,14 @@
+pub mod Cited
+pub mod ConditionLaws
+pub mod Laws
+pub mod Listed
+pub mod NumberLaws
+pub mod Offsets
+pub mod RefuteLaws
+pub mod Refutes
+pub mod Replaced
+pub mod Shapes
+pub mod Signed
+pub mod Steps
+pub mod Sums
+pub mod WriteLaws

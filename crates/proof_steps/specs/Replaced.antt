@@ -1,0 +1,113 @@
+-- Terms with arguments replaced by equal ones: each pair of arguments is identical, or equal by the next cited step.
+use Rattle.std.specs.Prelude.{ℕ, Bool, true, false, cond, ◌==◌, ◌&&◌, List, [], ◌∷◌, Option, Some, None}
+use Rattle.std.specs.Ordering.{int_eq}
+use Rattle.rule_terms.specs.Term.{StoreTerm, left_store, right_store, put, run, ValueTerm, num, get, ev, add, sub, mul, ValueTerms, no_terms, term}
+use Rattle.rule_terms.specs.Order.{store_same, value_same}
+use Rattle.rule_terms.specs.declared.obligation.Atom.{Atom}
+use Rattle.rule_terms.specs.declared.obligation.Atom.TheVariants.{SameName, SameStore, SameValue, AtMost, Ends, Holds}
+use Rattle.term_meaning.specs.Indices.{count}
+use Rattle.proof_steps.specs.declared.refutation.Step.{Step}
+use Rattle.proof_steps.specs.Signed.{Signed, plus, minus}
+use Rattle.proof_steps.specs.Cited.{fact, is_that}
+
+pub data Argument : Type 0 where
+  of_name : ℕ → Argument
+  of_store : StoreTerm → Argument
+  of_value : ValueTerm → Argument
+
+abbrev pub index_arguments : ValueTerms → List Argument → List Argument
+index_arguments no_terms more = more
+index_arguments (term v vs) more = of_value v ∷ index_arguments vs more
+
+-- of `put` its store, name, indices and value; of `get` its name, indices and store
+abbrev pub store_arguments : StoreTerm → List Argument
+store_arguments left_store = []
+store_arguments right_store = []
+store_arguments (put s x is v) = of_store s ∷ of_name x ∷ index_arguments is (of_value v ∷ [])
+store_arguments (run k s) = of_store s ∷ []
+
+abbrev pub value_arguments : ValueTerm → List Argument
+value_arguments (num z) = []
+value_arguments (get x is s) = of_name x ∷ index_arguments is (of_store s ∷ [])
+value_arguments (ev k s) = of_store s ∷ []
+value_arguments (add a b) = of_value a ∷ of_value b ∷ []
+value_arguments (sub a b) = of_value a ∷ of_value b ∷ []
+value_arguments (mul a b) = of_value a ∷ of_value b ∷ []
+
+-- the same constructor, and the same parameter, constant or number of indices
+unfoldable pub store_top : StoreTerm → StoreTerm → Bool
+store_top left_store left_store = true
+store_top right_store right_store = true
+store_top (put s x is v) (put t y js w) = count is == count js
+store_top (run j s) (run k t) = j == k
+store_top _ _ = false
+
+unfoldable pub value_top : ValueTerm → ValueTerm → Bool
+value_top (num y) (num z) = int_eq y z
+value_top (get x is s) (get y js t) = count is == count js
+value_top (ev j s) (ev k t) = j == k
+value_top (add a b) (add c d) = true
+value_top (sub a b) (sub c d) = true
+value_top (mul a b) (mul c d) = true
+value_top _ _ = false
+
+abbrev pub identical : Argument → Argument → Bool
+identical (of_name x) (of_name y) = x == y
+identical (of_store s) (of_store t) = store_same s t
+identical (of_value v) (of_value w) = value_same v w
+identical _ _ = false
+
+-- that the one argument is equal to the other
+abbrev pub equality : Argument → Argument → Option Atom
+equality (of_name x) (of_name y) = Some (SameName x y)
+equality (of_store s) (of_store t) = Some (SameStore s t)
+equality (of_value v) (of_value w) = Some (SameValue v w)
+equality _ _ = None
+
+abbrev pub says : List Step → ℕ → Option Atom → Bool
+says earlier k None = false
+says earlier k (Some a) = is_that (fact earlier k) (plus a)
+
+-- the steps that are left when the next one says that the arguments are equal
+abbrev pub left_by_equality : List Step → List ℕ → Option Atom → Option (List ℕ)
+left_by_equality earlier [] a = None
+left_by_equality earlier (k ∷ from) a = cond (says earlier k a) (Some from) None
+
+-- .. behind a pair of arguments, and behind all pairs, where any are left at all
+unfoldable pub left_by_pair : List Step → Option (List ℕ) → Argument → Argument → Option (List ℕ)
+left_by_pair earlier None a b = None
+left_by_pair earlier (Some from) a b = cond (identical a b) (Some from) (left_by_equality earlier from (equality a b))
+
+unfoldable pub left_by_pairs : List Step → Option (List ℕ) → List Argument → List Argument → Option (List ℕ)
+left_by_pairs earlier from [] [] = from
+left_by_pairs earlier from [] (b ∷ bs) = None
+left_by_pairs earlier from (a ∷ more) [] = None
+left_by_pairs earlier from (a ∷ more) (b ∷ bs) = left_by_pairs earlier (left_by_pair earlier from a b) more bs
+
+-- none is left
+abbrev pub all_used : Option (List ℕ) → Bool
+all_used None = false
+all_used (Some []) = true
+all_used (Some (k ∷ from)) = false
+
+abbrev pub replaced : List Step → List ℕ → List Argument → List Argument → Bool
+replaced earlier from more others = all_used (left_by_pairs earlier (Some from) more others)
+
+-- `+` equality of two terms with the same top
+unfoldable pub alike : List Step → List ℕ → Signed → Bool
+alike earlier from (plus (SameStore a b)) = store_top a b && replaced earlier from (store_arguments a) (store_arguments b)
+alike earlier from (plus (SameValue a b)) = value_top a b && replaced earlier from (value_arguments a) (value_arguments b)
+alike earlier from _ = false
+
+-- the second atom is the first with its terms replaced
+abbrev pub carried_atom : List Step → List ℕ → Atom → Atom → Bool
+carried_atom earlier from (AtMost a b c) (AtMost d e f) = int_eq c f && replaced earlier from (of_value a ∷ of_value b ∷ []) (of_value d ∷ of_value e ∷ [])
+carried_atom earlier from (Ends s) (Ends t) = replaced earlier from (of_store s ∷ []) (of_store t ∷ [])
+carried_atom earlier from (Holds j s) (Holds k t) = j == k && replaced earlier from (of_store s ∷ []) (of_store t ∷ [])
+carried_atom earlier from _ _ = false
+
+-- .. with its sign
+unfoldable pub carried : List Step → List ℕ → Option Signed → Signed → Bool
+carried earlier from (Some (plus a)) (plus b) = carried_atom earlier from a b
+carried earlier from (Some (minus a)) (minus b) = carried_atom earlier from a b
+carried earlier from _ _ = false

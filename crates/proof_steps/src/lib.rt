@@ -1,0 +1,20 @@
+//! Refutations of obligations: proofs by cases and steps, and the laws that the steps may cite.
+//! `specs/Refutes.antt` says which refutations are right, and a right one makes its obligation hold.
+#![tactic(auto)]
+
+mod cited_lists;
+mod cites;
+mod closing;
+mod condition_laws;
+mod equalities;
+mod given;
+pub mod laws;
+mod listed;
+mod number_laws;
+mod read_back;
+mod refutation;
+mod replaced;
+mod shapes;
+mod write_laws;
+
+pub use refutation::{By, Refutation, Step, SumRow};
