@@ -1,0 +1,10 @@
+pub mod Backwards
+pub mod Capped
+pub mod Examples
+pub mod FromPoints
+pub mod Joining
+pub mod OutcomeLengths
+pub mod Saturating
+pub mod Stopping
+pub mod WalkLengths
+pub mod WalkSteps

@@ -1,0 +1,14 @@
+//! Walks over the sides of a rule between cut points: the paths along which a proof by simulation goes.
+//! `specs/Paths.antt` says which paths there are, `specs/Cuts.antt` which points and pairs are cut.
+#![tactic(auto)]
+
+mod along;
+mod counting;
+mod cut_points;
+mod test_outcome;
+#[cfg(test)]
+mod tests;
+
+pub use counting::{OutcomeCounts, outcome_counts};
+pub use cut_points::{CutPoints, LimitMark, Side};
+pub use test_outcome::outcomes;
