@@ -20,17 +20,10 @@ one_section() {
   echo 'end'
 }
 
-# processor_seconds INPUT: the processor time of 20 runs, the least of five: other programs change it little.
-processor_seconds() {
-  local TIMEFORMAT='%U %S'
-  for _ in 1 2 3 4 5; do
-    { time for _ in {1..20}; do "${bench:?}" sections < "$1" > /dev/null; done; } 2>&1
-  done | awk '{ print $1 + $2 }' | sort -n | head -n 1
-}
-
 for shape in one_line_sections line_feeds one_section; do
   "$shape" 1048576 > "$folder/large"
   "$shape" 262144 > "$folder/small"
   ratio "sections of 1 MiB against 256 KiB, $shape" \
-    "$(processor_seconds "$folder/large")" "$(processor_seconds "$folder/small")" 5
+    "$(processor_seconds 5 20 "$folder/large" "${bench:?}" sections)" \
+    "$(processor_seconds 5 20 "$folder/small" "$bench" sections)" 5
 done

@@ -11,6 +11,16 @@ seconds() {
   awk -v span=$((end - start)) 'BEGIN { printf "%.4f\n", span / 1e9 }'
 }
 
+# processor_seconds ROUNDS TIMES INPUT COMMAND..: the processor time of TIMES runs, the least of so many rounds: other
+# programs change it little.
+processor_seconds() {
+  local TIMEFORMAT='%U %S' rounds=$1 times=$2 input=$3
+  shift 3
+  for ((round = 0; round < rounds; round++)); do
+    { time for ((i = 0; i < times; i++)); do "$@" < "$input" > /dev/null; done; } 2>&1
+  done | awk '{ print $1 + $2 }' | sort -n | head -n 1
+}
+
 # ratio NAME A B MOST: prints A / B, and fails where it is MOST or more.
 ratio() {
   awk -v name="$1" -v a="$2" -v b="$3" -v most="$4" \

@@ -3,6 +3,9 @@
 #![tactic(auto)]
 
 mod diff;
+mod rows;
+mod terms;
+mod texts;
 
 use pec_io::{StdSink, StdSource, read_all, write_all};
 use pec_text::sections;
@@ -24,7 +27,14 @@ fn main(rt: HostRuntime) -> ExitCode {
     match words.as_slice() {
         [name] if name.as_str() == "io" => ExitCode::from(io(&rt)),
         [name] if name.as_str() == "sections" => ExitCode::from(cut(&rt)),
-        [name] if name.as_str() == "diff" => ExitCode::from(solve_systems(&rt)),
+        [name] if name.as_str() == "read" => ExitCode::from(texts::program(&rt)),
+        [name] if name.as_str() == "rules" => ExitCode::from(texts::rule(&rt)),
+        [name] if name.as_str() == "diff" => ExitCode::from(status(&rt, diff::run(&rt))),
+        [name] if name.as_str() == "rows" => ExitCode::from(status(&rt, rows::run(&rt))),
+        [name, what, times] if name.as_str() == "terms" => ExitCode::from(status(
+            &rt,
+            terms::run(&rt, what.as_str(), times.as_str()),
+        )),
         _ => ExitCode::from(2),
     }
 }
@@ -59,9 +69,9 @@ fn cut(rt: &HostRuntime) -> u8 {
     }
 }
 
-/// Solves the systems of rows of standard input.
-fn solve_systems(rt: &HostRuntime) -> u8 {
-    match diff::run(rt) {
+/// The status of a bench, which says on standard error why it failed.
+fn status(rt: &HostRuntime, done: anyhow::Result<()>) -> u8 {
+    match done {
         Ok(()) => 0,
         Err(error) => {
             let _ = rt.eprintln(error);
