@@ -1,10 +1,16 @@
 pub mod Backwards
 pub mod Capped
+pub mod Comings
 pub mod Examples
 pub mod FromPoints
 pub mod Joining
+pub mod OnePaths
 pub mod OutcomeLengths
+pub mod OutcomeTruths
+pub mod Passing
 pub mod Saturating
+pub mod Standing
 pub mod Stopping
+pub mod TrueSteps
 pub mod WalkLengths
 pub mod WalkSteps

@@ -1,8 +1,10 @@
 pub mod Along
+pub mod Comes
 pub mod Cuts
 pub mod Open
 pub mod OutcomeCounts
 pub mod Outcomes
+pub mod PathLaws
 pub mod Paths
 pub mod Rests
 pub mod Walks

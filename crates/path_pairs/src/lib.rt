@@ -5,6 +5,7 @@
 mod along;
 mod counting;
 mod cut_points;
+pub mod laws;
 mod test_outcome;
 #[cfg(test)]
 mod tests;

@@ -1,0 +1,64 @@
+-- The path law: of all paths from a point, the literals of exactly one are true, and it tells how the run from there goes on.
+-- A side is run from its rest at the point, filled; its store is l for the left side and r for the right.
+use Rattle.std.specs.Prelude.{◌≡◌, ℕ, ◌<◌, Bool, true, false, List, [], ◌∷◌, filter, Some}
+use Rattle.std.specs.List.{list_all}
+use Rattle.toy_imp.specs.declared.instance.Instance.{Instance}
+use Rattle.toy_imp.specs.declared.rule.Rule.{Rule}
+use Rattle.toy_imp.specs.Block.{Block}
+use Rattle.toy_imp.specs.Ends.{Reaches}
+use Rattle.toy_imp.specs.Faults.{has_scope}
+use Rattle.toy_imp.specs.Fill.{fill}
+use Rattle.toy_imp.specs.Points.{exit_point}
+use Rattle.toy_imp.specs.Run.{Item, before}
+use Rattle.toy_imp.specs.Store.{Store}
+use Rattle.rule_terms.specs.Term.{StoreTerm}
+use Rattle.rule_terms.specs.declared.path.Path.{Path}
+use Rattle.rule_terms.specs.declared.path.Stop.{Stop}
+use Rattle.rule_terms.specs.declared.path.Stop.TheVariants.{At, Stuck}
+use Rattle.term_meaning.specs.Table.{Entry, Faithful}
+use Rattle.term_meaning.specs.Meaning.{store_of, literal_truth, CoversStore, Reached}
+use Rattle.path_pairs.specs.declared.cut_points.CutPoints.{CutPoints}
+use Rattle.path_pairs.specs.declared.cut_points.Side.{Side}
+use Rattle.path_pairs.specs.declared.cut_points.Side.TheVariants.{Left, Right}
+use Rattle.path_pairs.specs.Comes.{Comes}
+use Rattle.path_pairs.specs.Open.{block_is_open}
+use Rattle.path_pairs.specs.Paths.{side_of, cuts_of, store_of as term_of, has_long_walk, paths}
+use Rattle.path_pairs.specs.Rests.{Rest, rest_statements, rest_at}
+
+-- the work that stands for a rest, and for what is left at a point
+abbrev pub work_of : Instance → Rest → List Item
+work_of i rest = before (fill i (rest_statements rest)) []
+
+abbrev pub work_at : Instance → Block → ℕ → List Item
+work_at i side p = work_of i (rest_at side p)
+
+abbrev pub its_store : Side → Store → Store → Store
+its_store Left l r = l
+its_store Right l r = r
+
+-- all literals of a path are true
+abbrev pub is_taken : Instance → List Entry → Store → Store → Path → Bool
+is_taken i T l r path = list_all (literal_truth i T l r) path.literals
+
+-- the table covers the store terms of paths
+abbrev pub CoversStores : Instance → List Entry → Store → Store → List Path → Type 0
+CoversStores i T l r [] = Unit {0}
+CoversStores i T l r (path ∷ all) = CoversStore i T l r path.store × CoversStores i T l r all
+
+-- What a path tells of the run of some work in the store s, by its store term and its stop. At a point: the term means a store,
+-- and the run comes to what is left at the point in that store. Where it is stuck: an end of the run gives the answer A.
+abbrev pub Tells : Type 0 → Instance → List Entry → Store → Store → Block → List Item → Store → StoreTerm → Stop → Type 0
+Tells A i T l r side work s u (At q) = (m : Store) × (store_of i T l r u ≡ Some m) × Comes work s (work_at i side q) m
+Tells A i T l r side work s u Stuck = (t : Store) → Reaches work s t → A
+
+-- exactly one of some paths is taken
+pub record OnePath (A : Type 0) (i : Instance) (T : List Entry) (l r : Store) (side : Block) (work : List Item) (s : Store) (all : List Path) : Type 0 where
+  pub path : Path
+  pub only : filter (is_taken i T l r) all ≡ path ∷ []
+  pub tells : Tells A i T l r side work s path.store path.stop
+
+abbrev pub PathLaw : Type 0
+PathLaw = (f : ℕ → Bool) (i : Instance) (T : List Entry) (l r : Store) → Faithful (Reached f) i T → (rule : Rule) (cuts : CutPoints) (side : Side) (p : ℕ)
+    → block_is_open (side_of rule side) ≡ true → has_scope (side_of rule side) ≡ false → p < exit_point (side_of rule side)
+    → has_long_walk (side_of rule side) (cuts_of cuts side) (term_of side) p ≡ false → CoversStores i T l r (paths rule cuts side p)
+    → OnePath (Reached f) i T l r (side_of rule side) (work_at i (side_of rule side) p) (its_store side l r) (paths rule cuts side p)
