@@ -7,6 +7,7 @@ use Rattle.toy_imp.specs.Store.{Store}
 use Rattle.toy_imp.proofs.Runs.{store-append, work-append}
 use Rattle.term_meaning.proofs.Agreeing.{some_equal, none_some}
 use Rattle.path_pairs.specs.Comes.{steps_on, Comes}
+use Rattle.path_pairs.specs.PathLaws.{GoesOn}
 
 -- so many steps, and then more
 pub steps_more : (k j : ℕ) (work : List Item) (s : Store) (d : Done) → steps_on k work s ≡ Some d → steps_on (k + j) work s ≡ steps_on j d.work d.store
@@ -88,3 +89,10 @@ done_comes u w s m e = done_in e.steps u w s m e.reached
 pub comes_ends : (u : List Item) (s m : Store) → Comes u s [] m → Reaches u s m
 unfolding run
 comes_ends u s m c = reaches_before u [] s m m c (record { steps = 0; reached = refl })
+
+pub run_goes_on : (u w : List Item) (s m : Store) (c : Comes u s w m) → GoesOn u s w m c.steps
+run_goes_on u w s m c = record {
+  more = λ n. run_from c.steps n u s (record { store = m; work = w }) c.there;
+  left = λ n t e. run_behind c.steps n u s t (record { store = m; work = w }) c.there e;
+  ends = λ t. (reaches_behind u w s m t c, reaches_before u w s m t c);
+}

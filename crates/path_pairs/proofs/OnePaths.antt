@@ -7,11 +7,13 @@ use Rattle.std.proofs.lemmas.Bool.{or_parts}
 use Rattle.toy_imp.specs.declared.instance.Instance.{Instance}
 use Rattle.toy_imp.specs.declared.rule.Rule.{Rule}
 use Rattle.toy_imp.specs.Block.{Stmt, skip, put, if_then, while_do, for_to, let_in, par_stmt, Block, empty, stmt}
+use Rattle.toy_imp.specs.Ends.{Reaches}
 use Rattle.toy_imp.specs.Faults.{has_scope, stmt_has_scope}
 use Rattle.toy_imp.specs.Fill.{fill}
 use Rattle.toy_imp.specs.Points.{exit_point}
 use Rattle.toy_imp.specs.Run.{Item, before}
 use Rattle.toy_imp.specs.Store.{Store}
+use Rattle.toy_imp.proofs.Alikes.{append-empty}
 use Rattle.rule_terms.specs.Term.{StoreTerm, run}
 use Rattle.rule_terms.specs.declared.obligation.Literal.{Literal}
 use Rattle.rule_terms.specs.declared.path.Path.{Path}
@@ -28,9 +30,9 @@ use Rattle.path_pairs.specs.PathLaws.{work_of, work_at, its_store, is_taken, Cov
 use Rattle.path_pairs.specs.Paths.{side_of, cuts_of, store_of as term_of, side_paths, has_long_walk, paths}
 use Rattle.path_pairs.specs.Rests.{Rest, stretch, rests, rest_at}
 use Rattle.path_pairs.specs.Walks.{Walk, stands, stmt_step, rest_step, step, rest_stop, stop_of, walks, goes_on}
-use Rattle.path_pairs.proofs.Comings.{comes_same, comes_through, reaches_behind}
+use Rattle.path_pairs.proofs.Comings.{comes_same, comes_through, comes_ends, reaches_behind}
 use Rattle.path_pairs.proofs.Passing.{Among, passes, among, among_any, among_made, only_one, not_one, none_led, one_led}
-use Rattle.path_pairs.proofs.Standing.{Stands, Moves, Stopped, stops, moves, exit_is, start_stands, point_stands}
+use Rattle.path_pairs.proofs.Standing.{Stands, Moves, Stopped, stops, moves, exit_is, exit_is_empty, start_stands, point_stands}
 use Rattle.path_pairs.proofs.TrueSteps.{CoversRun, CoversNext, Onward, is_true, OneStep, rest_once, rest_never}
 use Rattle.path_pairs.proofs.WalkSteps.{test_goes}
 
@@ -214,3 +216,11 @@ pub path_law : (A : Type 0) (i : Instance) (T : List Entry) (l r : Store) → Fa
     → OnePath A i T l r (side_of rule side) (work_at i (side_of rule side) p) (its_store side l r) (paths rule cuts side p)
 path_law A i T l r faithful rule cuts side p names plain lt g c =
     one_path A i T l r faithful (side_of rule side) names plain (cuts_of cuts side) (term_of side) (its_store side l r) (its_term_means i T l r side) p lt g c
+
+-- at the ends of a side
+pub all_is_left_at_start : (i : Instance) (side : Block) → work_at i side 0 ≡ before (fill i side) []
+all_is_left_at_start i side = ap (λ b. before (fill i b) []) (append-empty side)
+
+pub run_ends_at_exit : (i : Instance) (side : Block) → has_scope side ≡ false → (work : List Item) (s m : Store) → Comes work s (work_at i side (exit_point side)) m → Reaches work s m
+unfolding fill
+run_ends_at_exit i side plain work s m c = comes_ends work s m (subst (λ w. Comes work s w m) (ap (work_of i) (exit_is_empty side plain)) c)

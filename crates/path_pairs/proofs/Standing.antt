@@ -180,6 +180,10 @@ point_stands side names plain p lt =
 pub exit_is : (side : Block) → has_scope side ≡ false → length (rests side) ≡ exit_point side
 exit_is side plain = ap suc (as_many_rests 1 side [] plain)
 
+-- nothing stands at the exit
+pub exit_is_empty : (side : Block) → has_scope side ≡ false → rest_at side (exit_point side) ≡ []
+exit_is_empty side plain = let e : length (rests side) ≡ exit_point side = exit_is side plain in get_or_past (rests side) (exit_point side) [] (omega (arith, e))
+
 -- ---- where a walk stops
 pub record Stopped (all : List Rest) (rest : Rest) (stop : Stop) : Type 0 where
   pub point : ℕ

@@ -1,6 +1,6 @@
 -- The path law: of all paths from a point, the literals of exactly one are true, and it tells how the run from there goes on.
 -- A side is run from its rest at the point, filled; its store is l for the left side and r for the right.
-use Rattle.std.specs.Prelude.{◌≡◌, ℕ, ◌<◌, Bool, true, false, List, [], ◌∷◌, filter, Some}
+use Rattle.std.specs.Prelude.{◌≡◌, ◌↔◌, ℕ, ◌+◌, ◌-◌, ◌<◌, ◌≤◌, Bool, true, false, List, [], ◌∷◌, filter, Some}
 use Rattle.std.specs.List.{list_all}
 use Rattle.toy_imp.specs.declared.instance.Instance.{Instance}
 use Rattle.toy_imp.specs.declared.rule.Rule.{Rule}
@@ -9,7 +9,7 @@ use Rattle.toy_imp.specs.Ends.{Reaches}
 use Rattle.toy_imp.specs.Faults.{has_scope}
 use Rattle.toy_imp.specs.Fill.{fill}
 use Rattle.toy_imp.specs.Points.{exit_point}
-use Rattle.toy_imp.specs.Run.{Item, before}
+use Rattle.toy_imp.specs.Run.{Item, before, run}
 use Rattle.toy_imp.specs.Store.{Store}
 use Rattle.rule_terms.specs.Term.{StoreTerm}
 use Rattle.rule_terms.specs.declared.path.Path.{Path}
@@ -62,3 +62,19 @@ PathLaw = (f : ℕ → Bool) (i : Instance) (T : List Entry) (l r : Store) → F
     → block_is_open (side_of rule side) ≡ true → has_scope (side_of rule side) ≡ false → p < exit_point (side_of rule side)
     → has_long_walk (side_of rule side) (cuts_of cuts side) (term_of side) p ≡ false → CoversStores i T l r (paths rule cuts side p)
     → OnePath (Reached f) i T l r (side_of rule side) (work_at i (side_of rule side) p) (its_store side l r) (paths rule cuts side p)
+
+-- A run that comes to other work goes on with it: it ends exactly where that other work ends, in the steps that are left.
+pub record GoesOn (first : List Item) (s : Store) (second : List Item) (m : Store) (steps : ℕ) : Type 0 where
+  pub more : (n : ℕ) → run (steps + n) first s ≡ run n second m
+  pub left : (n : ℕ) (t : Store) → run n first s ≡ Some t → (steps ≤ n) × (run (n - steps) second m ≡ Some t)
+  pub ends : (t : Store) → Reaches first s t ↔ Reaches second m t
+
+abbrev pub RunGoesOn : Type 0
+RunGoesOn = (first second : List Item) (s m : Store) (c : Comes first s second m) → GoesOn first s second m c.steps
+
+-- at the start all of the side is left to do, and at the exit nothing: what comes there has ended
+abbrev pub AllIsLeftAtStart : Type 0
+AllIsLeftAtStart = (i : Instance) (side : Block) → work_at i side 0 ≡ before (fill i side) []
+
+abbrev pub RunEndsAtExit : Type 0
+RunEndsAtExit = (i : Instance) (side : Block) → has_scope side ≡ false → (work : List Item) (s m : Store) → Comes work s (work_at i side (exit_point side)) m → Reaches work s m
