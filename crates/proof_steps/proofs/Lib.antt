@@ -1,8 +1,10 @@
 pub mod Citing
+pub mod ClauseLengths
 pub mod Clauses
 pub mod ConditionClauses
 pub mod Each
 pub mod Examples
+pub mod LeftOut
 pub mod Lists
 pub mod Meant
 pub mod NumberClauses
@@ -10,8 +12,10 @@ pub mod Pairs
 pub mod Refuting
 pub mod Replacing
 pub mod Same
+pub mod ShortClauses
 pub mod Soundness
 pub mod Standing
 pub mod Stepping
 pub mod Summing
+pub mod WalkedWrites
 pub mod WriteClauses

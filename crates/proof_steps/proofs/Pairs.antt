@@ -49,14 +49,14 @@ other_number (x ∷ xs) (v ∷ vs) (w ∷ ws) e apart =
     and_not false q f = refl
 
 -- a clause by its last literal and those before
-conclusion_is : (xs : List Literal) (d : Literal) (k : ℕ) → suc k ≡ length xs → conclusion (all_signed xs) ≡ Some (signed_of (get_or xs k d))
+pub conclusion_is : (xs : List Literal) (d : Literal) (k : ℕ) → suc k ≡ length xs → conclusion (all_signed xs) ≡ Some (signed_of (get_or xs k d))
 conclusion_is [] d k e = absurd (omega arith)
 conclusion_is (x ∷ []) d zero e = refl
 conclusion_is (x ∷ []) d (suc k) e = absurd (omega arith)
 conclusion_is (x ∷ y ∷ ys) d zero e = absurd (omega arith)
 conclusion_is (x ∷ y ∷ ys) d (suc k) e = let more : suc k ≡ length (y ∷ ys) = omega arith in conclusion_is (y ∷ ys) d k more
 
-conditions_are : (xs : List Literal) (k : ℕ) → suc k ≡ length xs → negated_conditions (all_signed xs) ≡ all_signed (take k xs)
+pub conditions_are : (xs : List Literal) (k : ℕ) → suc k ≡ length xs → negated_conditions (all_signed xs) ≡ all_signed (take k xs)
 conditions_are [] k e = absurd (omega arith)
 conditions_are (x ∷ []) zero e = refl
 conditions_are (x ∷ []) (suc k) e = absurd (omega arith)

@@ -8,7 +8,9 @@ pub mod RefuteLaws
 pub mod Refutes
 pub mod Replaced
 pub mod Shapes
+pub mod ShortLaws
 pub mod Signed
 pub mod Steps
 pub mod Sums
 pub mod WriteLaws
+pub mod WrittenAlike

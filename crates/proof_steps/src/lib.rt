@@ -8,7 +8,9 @@ mod closing;
 mod condition_laws;
 mod equalities;
 mod given;
+mod law_clauses;
 pub mod laws;
+mod laws_cited;
 mod listed;
 mod number_laws;
 mod read_back;
@@ -16,5 +18,6 @@ mod refutation;
 mod replaced;
 mod shapes;
 mod write_laws;
+mod written_alike;
 
 pub use refutation::{By, Refutation, Step, SumRow};
