@@ -2,12 +2,14 @@ pub mod Citing
 pub mod ClauseLengths
 pub mod Clauses
 pub mod ConditionClauses
+pub mod ConditionTable
 pub mod Each
 pub mod Examples
 pub mod LeftOut
 pub mod Lists
 pub mod Meant
 pub mod NumberClauses
+pub mod NumberTable
 pub mod Pairs
 pub mod Refuting
 pub mod Replacing
@@ -17,5 +19,7 @@ pub mod Soundness
 pub mod Standing
 pub mod Stepping
 pub mod Summing
+pub mod TableTerms
 pub mod WalkedWrites
 pub mod WriteClauses
+pub mod WriteTable
