@@ -25,19 +25,19 @@ use Rattle.proof_steps.specs.Steps.{by_known, by_itself, by_law, all_negated, st
 use Rattle.proof_steps.specs.Refutes.{is_absurd, leaf_closes, refutes_layer, refutes}
 use Rattle.proof_steps.proofs.Refuting.{refutes_leaf}
 
-abbrev yes : Atom → Literal
+abbrev pub yes : Atom → Literal
 yes a = record { sign = true; atom = a }
 
-abbrev no : Atom → Literal
+abbrev pub no : Atom → Literal
 no a = record { sign = false; atom = a }
 
-abbrev fact : Literal → Conjunct
+abbrev pub fact : Literal → Conjunct
 fact x = record { when = []; gives = Some x }
 
-abbrev step : Literal → By → Step
+abbrev pub step : Literal → By → Step
 step x why = record { gives = x; by = why }
 
-refutes_by : (ob : Obligation) (steps : List Step) (b : Bool) → refutes_layer ob (Refutation-F.Leaf steps) [] ≡ b → refutes ob (Leaf steps) ≡ b
+pub refutes_by : (ob : Obligation) (steps : List Step) (b : Bool) → refutes_layer ob (Refutation-F.Leaf steps) [] ≡ b → refutes ob (Leaf steps) ≡ b
 unfolding refutes
 refutes_by ob steps b e = ap (λ f. f []) (refutes_leaf ob steps) ∙ e
 

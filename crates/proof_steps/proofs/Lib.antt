@@ -16,7 +16,9 @@ pub mod Replacing
 pub mod Same
 pub mod ShortClauses
 pub mod Soundness
+pub mod SplitTable
 pub mod Standing
+pub mod StepTable
 pub mod Stepping
 pub mod Summing
 pub mod TableTerms
