@@ -1,5 +1,5 @@
 -- A law's clause has a fixed number of literals, but those of the laws that speak of any number of places: another list is none.
-use Rattle.std.specs.Prelude.{◌≡◌, ◌≢◌, Bool, false, List, [], ◌∷◌, length, refl}
+use Rattle.std.specs.Prelude.{◌≡◌, ◌≢◌, false, List, [], ◌∷◌, length, refl}
 use Rattle.toy_imp.specs.declared.condition.Condition.{Condition}
 use Rattle.toy_imp.specs.declared.param.Kind.{Kind}
 use Rattle.rule_terms.specs.Term.{left_store, right_store, put, run, get, ev, add, sub, mul}

@@ -1,7 +1,7 @@
 -- Leaves and splits: for each a use that is right, and one with a single slip that is wrong. All by computation.
-use Rattle.std.specs.Prelude.{◌≡◌, ℕ, pos, negsuc, ℤ, Bool, true, false, List, [], ◌∷◌, Some, None, refl}
+use Rattle.std.specs.Prelude.{◌≡◌, ℕ, pos, negsuc, ℤ, Bool, true, false, List, [], ◌∷◌, Some, refl}
 use Rattle.std.proofs.Common.{◌∙◌, ap}
-use Rattle.rule_terms.specs.Term.{left_store, right_store, ValueTerm}
+use Rattle.rule_terms.specs.Term.{left_store, right_store}
 use Rattle.rule_terms.specs.Order.{store_cmp, value_cmp, terms_cmp}
 use Rattle.rule_terms.specs.declared.obligation.Atom.{Atom}
 use Rattle.rule_terms.specs.declared.obligation.Atom.TheVariants.{SameName, SameStore, AtMost}

@@ -1,6 +1,6 @@
 -- The ten reasons of a step: for each a use that is right, and one with a single slip that is wrong. All by computation.
 use Rattle.std.specs.Prelude.{◌≡◌, ℕ, pos, negsuc, ℤ, true, false, List, [], ◌∷◌, map, Option, Some, None, refl}
-use Rattle.rule_terms.specs.Term.{StoreTerm, left_store, right_store, put, run, ValueTerm, num, add}
+use Rattle.rule_terms.specs.Term.{StoreTerm, left_store, right_store, run, ValueTerm, num, add}
 use Rattle.rule_terms.specs.Order.{store_cmp, value_cmp, terms_cmp}
 use Rattle.rule_terms.specs.declared.obligation.Atom.{Atom}
 use Rattle.rule_terms.specs.declared.obligation.Atom.TheVariants.{SameName, SameStore, SameValue, AtMost, Ends}
@@ -9,7 +9,7 @@ use Rattle.rule_terms.specs.declared.obligation.Obligation.{Obligation}
 use Rattle.proof_steps.specs.declared.refutation.By.TheVariants.{Given, Known, Refl, Flip, Chain, Alike, Carry, Law, Meet, Sum}
 use Rattle.proof_steps.specs.declared.refutation.Step.{Step}
 use Rattle.proof_steps.specs.declared.refutation.SumRow.TheVariants.{Of, Back, Num, Off, OffBack}
-use Rattle.proof_steps.specs.Signed.{Signed, all_signed, atom_same, signed_same}
+use Rattle.proof_steps.specs.Signed.{all_signed, atom_same, signed_same}
 use Rattle.proof_steps.specs.WriteLaws.{law_7, law_8}
 use Rattle.proof_steps.specs.Laws.{is_clause}
 use Rattle.proof_steps.specs.Cited.{cited}

@@ -1,9 +1,9 @@
 -- The notation of the tables of laws and steps: small terms, obligations of which the parameters and conditions alone matter, and rows.
 -- A row has a list of literals that is a clause of a law, and one with a single slip that is none.
-use Rattle.std.specs.Prelude.{◌≡◌, ℕ, pos, true, false, List, [], ◌∷◌, Some, None}
+use Rattle.std.specs.Prelude.{◌≡◌, ℕ, pos, true, false, List, [], None}
 use Rattle.toy_imp.specs.declared.condition.Condition.{Condition}
 use Rattle.toy_imp.specs.declared.param.Kind.{Kind}
-use Rattle.rule_terms.specs.Term.{StoreTerm, left_store, put, ValueTerm, num, get, no_terms, term}
+use Rattle.rule_terms.specs.Term.{StoreTerm, put, ValueTerm, num, get, no_terms, term}
 use Rattle.rule_terms.specs.declared.obligation.Conjunct.{Conjunct}
 use Rattle.rule_terms.specs.declared.obligation.Obligation.{Obligation}
 use Rattle.proof_steps.specs.Signed.{Signed}

@@ -12,7 +12,7 @@ use Rattle.std.proofs.lemmas.List.{drop_all, take-map, length-map}
 use Rattle.std.proofs.lemmas.Option.{slice_get-map, slice_get-get_or, slice_get_past}
 use Rattle.rule_terms.specs.Term.{StoreTerm, ValueTerm, num, get, ev, add, sub, mul, ValueTerms, Place}
 use Rattle.rule_terms.specs.Order.{store_cmp, value_cmp, terms_cmp, value_same, place_same}
-use Rattle.rule_terms.specs.Added.{added, added_all}
+use Rattle.rule_terms.specs.Added.{added_all}
 use Rattle.rule_terms.specs.declared.obligation.Literal.{Literal}
 use Rattle.proof_steps.specs.Shapes.{is_get}
 use Rattle.proof_steps.specs.Signed.{Signed, signed_of, all_signed, signed_same, all_same}

@@ -1,6 +1,6 @@
 -- The laws of reads and writes, 1 to 10: for each a clause, and a list of literals with a single slip that is none. All by computation.
 use Rattle.std.specs.Prelude.{ℕ, List, [], ◌∷◌, ◌++◌, refl}
-use Rattle.rule_terms.specs.Term.{StoreTerm, left_store, right_store, run, ValueTerm, get, no_terms}
+use Rattle.rule_terms.specs.Term.{StoreTerm, left_store, right_store, run, ValueTerm}
 use Rattle.rule_terms.specs.Order.{store_cmp, value_cmp, terms_cmp}
 use Rattle.rule_terms.specs.Added.{added_all}
 use Rattle.rule_terms.specs.declared.obligation.Atom.TheVariants.{SameName, SameStore, SameValue, Ends}

@@ -70,8 +70,8 @@ fn denies_stores(x: &Literal, s: &StoreTerm, t: &StoreTerm) -> bool
     }
 }
 
-// How many literals are used behind a write at the place, `n` being used before it. A place is looked for among these: as many looks
-// as there are writes, times the places written.
+// How many literals are used behind a write at the place, `n` being used before it. A place is looked for among these, one by one, so
+// the walk over two stores is quadratic in their writes; nothing is built, and a store has some thousand writes at most.
 #[tactic(auto, using(crate::proofs::WalkedWrites::used_at_met, crate::proofs::WalkedWrites::used_at_one_more, crate::proofs::WalkedWrites::used_at_other, crate::proofs::WalkedWrites::used_at_end))]
 fn used_at(xs: &[Literal], n: usize, a: &StoreTerm, c: &StoreTerm, p: &Place) -> Option<usize>
     requires { n ≤ length xs.now }
