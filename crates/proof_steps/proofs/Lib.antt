@@ -1,3 +1,4 @@
+pub mod Arguing
 pub mod Citing
 pub mod ClauseLengths
 pub mod Clauses
@@ -20,6 +21,7 @@ pub mod SplitTable
 pub mod Standing
 pub mod StepTable
 pub mod Stepping
+pub mod Summed
 pub mod Summing
 pub mod TableTerms
 pub mod WalkedWrites

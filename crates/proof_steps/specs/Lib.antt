@@ -7,6 +7,7 @@ pub mod Offsets
 pub mod RefuteLaws
 pub mod Refutes
 pub mod Replaced
+pub mod Rows
 pub mod Shapes
 pub mod ShortLaws
 pub mod Signed

@@ -2,6 +2,7 @@
 //! `specs/Refutes.antt` says which refutations are right, and a right one makes its obligation hold.
 #![tactic(auto)]
 
+mod arguments;
 mod cited_lists;
 mod cites;
 mod closing;
@@ -17,6 +18,7 @@ mod read_back;
 mod refutation;
 mod replaced;
 mod shapes;
+mod sums;
 mod write_laws;
 mod written_alike;
 
