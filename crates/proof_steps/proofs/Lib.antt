@@ -6,6 +6,7 @@ pub mod ConditionClauses
 pub mod ConditionTable
 pub mod Each
 pub mod Examples
+pub mod Leafing
 pub mod LeftOut
 pub mod Lists
 pub mod Meant
@@ -24,6 +25,7 @@ pub mod Stepping
 pub mod Summed
 pub mod Summing
 pub mod TableTerms
+pub mod Turning
 pub mod WalkedWrites
 pub mod WriteClauses
 pub mod WriteTable

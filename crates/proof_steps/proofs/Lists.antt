@@ -42,7 +42,7 @@ pub or_more : (a b c : Bool) → (a || (b || c)) ≡ ((a || b) || c)
 or_more true b c = refl
 or_more false b c = refl
 
-any_append : (test : Signed → Bool) (xs ys : List Signed) → list_any test (xs ++ ys) ≡ (list_any test xs || list_any test ys)
+pub any_append : (test : Signed → Bool) (xs ys : List Signed) → list_any test (xs ++ ys) ≡ (list_any test xs || list_any test ys)
 any_append test [] ys = refl
 any_append test (x ∷ xs) ys = ap (λ b. test x || b) (any_append test xs ys) ∙ or_more (test x) (list_any test xs) (list_any test ys)
 

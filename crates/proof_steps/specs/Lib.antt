@@ -1,6 +1,7 @@
 pub mod Cited
 pub mod ConditionLaws
 pub mod Laws
+pub mod Leaves
 pub mod Listed
 pub mod NumberLaws
 pub mod Offsets
@@ -13,5 +14,6 @@ pub mod ShortLaws
 pub mod Signed
 pub mod Steps
 pub mod Sums
+pub mod Turns
 pub mod WriteLaws
 pub mod WrittenAlike
