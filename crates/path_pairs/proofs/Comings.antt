@@ -1,13 +1,13 @@
 -- Steps that lead from work in a store to other work in another store, one after another, and what a run does behind them.
-use Rattle.std.specs.Prelude.{◌≡◌, ℕ, zero, suc, ◌+◌, ◌-◌, ◌≤◌, List, [], ◌∷◌, ◌++◌, Some, refl}
-use Rattle.std.proofs.Common.{sym, ◌∙◌, ap, subst, arith}
+use Rattle.std.specs.Prelude.{◌≡◌, ℕ, zero, suc, ◌+◌, ◌-◌, ◌<◌, ◌≤◌, List, [], ◌∷◌, ◌++◌, Some, refl}
+use Rattle.std.proofs.Common.{sym, ◌∙◌, ap, subst, inl, inr, arith}
 use Rattle.toy_imp.specs.Ends.{Reaches}
 use Rattle.toy_imp.specs.Run.{Item, Done, step, run}
 use Rattle.toy_imp.specs.Store.{Store}
 use Rattle.toy_imp.proofs.Runs.{store-append, work-append}
 use Rattle.term_meaning.proofs.Agreeing.{some_equal, none_some}
 use Rattle.path_pairs.specs.Comes.{steps_on, Comes}
-use Rattle.path_pairs.specs.PathLaws.{GoesOn}
+use Rattle.path_pairs.specs.PathLaws.{GetsOn, GoesOn}
 
 -- so many steps, and then more
 pub steps_more : (k j : ℕ) (work : List Item) (s : Store) (d : Done) → steps_on k work s ≡ Some d → steps_on (k + j) work s ≡ steps_on j d.work d.store
@@ -27,15 +27,34 @@ comes_self work s = record { steps = 0; there = refl }
 pub comes_same : (u w : List Item) (s : Store) → u ≡ w → Comes u s w s
 comes_same u w s e = subst (λ x. Comes u s x s) e (comes_self u s)
 
-pub comes_by_step : (item : Item) (work : List Item) (s : Store) → Comes (item ∷ work) s ((step item s work).work) ((step item s work).store)
+-- .. by some step at least
+pub record ComesByStep (first : List Item) (s : Store) (second : List Item) (m : Store) : Type 0 where
+  pub comes : Comes first s second m
+  pub some : 1 ≤ comes.steps
+
+pub one_step : (item : Item) (work : List Item) (s : Store) → ComesByStep (item ∷ work) s ((step item s work).work) ((step item s work).store)
 unfolding steps_on
-comes_by_step item work s = record { steps = 1; there = refl }
+one_step item work s = record { comes = record { steps = 1; there = refl }; some = omega arith }
 
 pub comes_through : (u v w : List Item) (s m n : Store) → Comes u s v m → Comes v m w n → Comes u s w n
 comes_through u v w s m n a b = record {
   steps = a.steps + b.steps;
   there = steps_more a.steps b.steps u s (record { store = m; work = v }) a.there ∙ b.there;
 }
+
+pub steps_through : (u v w : List Item) (s m n : Store) (a : Comes u s v m) (b : Comes v m w n) → (comes_through u v w s m n a b).steps ≡ a.steps + b.steps
+unfolding comes_through
+steps_through u v w s m n a b = refl
+
+-- ---- some step is made, or less is left
+pub gets_on_more : (k now left more : ℕ) → GetsOn k now left → left ≤ more → GetsOn k now more
+gets_on_more k now left more (inl some) le = inl some
+gets_on_more k now left more (inr less) le = inr (omega (arith, less, le))
+
+pub gets_on_through : (k j n left between now : ℕ) → n ≡ k + j → GetsOn k between left → GetsOn j now (suc between) → GetsOn n now left
+gets_on_through k j n left between now e (inl some) g = inl (omega (arith, e, some))
+gets_on_through k j n left between now e (inr less) (inl some) = inl (omega (arith, e, some))
+gets_on_through k j n left between now e (inr less) (inr g) = inr (omega (arith, less, g))
 
 -- ---- runs
 pub run_from : (k j : ℕ) (work : List Item) (s : Store) (d : Done) → steps_on k work s ≡ Some d → run (k + j) work s ≡ run j d.work d.store

@@ -1,8 +1,8 @@
 -- Of all paths from a point the literals of exactly one are true, and it tells how a run of the rest at that point goes on:
 -- by the steps of the walks, each of which has one true walk.
-use Rattle.std.specs.Prelude.{◌≡◌, ℕ, zero, suc, ◌<◌, Bool, true, false, List, [], ◌∷◌, ◌++◌, filter, flat_map, Option, Some, None, refl}
+use Rattle.std.specs.Prelude.{◌≡◌, ℕ, zero, suc, ◌+◌, ◌<◌, ◌≤◌, Bool, true, false, List, [], ◌∷◌, ◌++◌, filter, flat_map, Option, Some, None, refl}
 use Rattle.std.specs.List.{list_all, list_any}
-use Rattle.std.proofs.Common.{sym, ◌∙◌, ap, subst, true≢false}
+use Rattle.std.proofs.Common.{sym, ◌∙◌, ap, subst, true≢false, inr, arith}
 use Rattle.std.proofs.lemmas.Bool.{or_parts}
 use Rattle.toy_imp.specs.declared.instance.Instance.{Instance}
 use Rattle.toy_imp.specs.declared.rule.Rule.{Rule}
@@ -26,11 +26,11 @@ use Rattle.path_pairs.specs.declared.cut_points.Side.{Side}
 use Rattle.path_pairs.specs.declared.cut_points.Side.TheVariants.{Left, Right}
 use Rattle.path_pairs.specs.Comes.{Comes}
 use Rattle.path_pairs.specs.Open.{block_is_open}
-use Rattle.path_pairs.specs.PathLaws.{work_of, work_at, its_store, is_taken, CoversStores, Tells, OnePath}
+use Rattle.path_pairs.specs.PathLaws.{work_of, work_at, its_store, is_taken, CoversStores, block_length, rest_length, left_count, GetsOn, StopsAt, Tells, OnePath}
 use Rattle.path_pairs.specs.Paths.{side_of, cuts_of, store_of as term_of, side_paths, has_long_walk, paths}
 use Rattle.path_pairs.specs.Rests.{Rest, stretch, rests, rest_at}
 use Rattle.path_pairs.specs.Walks.{Walk, stands, stmt_step, rest_step, step, rest_stop, stop_of, walks, goes_on}
-use Rattle.path_pairs.proofs.Comings.{comes_same, comes_through, comes_ends, reaches_behind}
+use Rattle.path_pairs.proofs.Comings.{comes_same, comes_through, steps_through, gets_on_more, gets_on_through, comes_ends, reaches_behind}
 use Rattle.path_pairs.proofs.Passing.{Among, passes, among, among_any, among_made, only_one, not_one, none_led, one_led}
 use Rattle.path_pairs.proofs.Standing.{Stands, Moves, Stopped, stops, moves, exit_is, exit_is_empty, start_stands, point_stands}
 use Rattle.path_pairs.proofs.TrueSteps.{CoversRun, CoversNext, Onward, is_true, OneStep, rest_once, rest_never}
@@ -104,62 +104,89 @@ step_there all cuts exit [] ls u h m = absurd m
 step_there all cuts exit (stretch n empty ∷ rest) ls u h m = step_there all cuts exit rest ls u h.1 m
 step_there all cuts exit (stretch n (stmt a b) ∷ rest) ls u h m = some_step cuts exit n a _ _ ls u (or_parts _ _ h.0.plain).0
 
+-- ---- what is told at a stop
+left_inside : (side : Block) (p : ℕ) → 1 ≤ p → left_count side p ≡ rest_length (rest_at side p)
+left_inside side zero h = absurd (omega (arith, h))
+left_inside side (suc p) h = refl
+
+module _ (A : Type 0) (i : Instance) (T : List Entry) (l r : Store) (side : Block) where
+  -- steps in front, after which so much is left
+  tells_from : (left between : ℕ) (u w : List Item) (s m : Store) (c : Comes u s w m) → GetsOn c.steps between left
+      → (store : StoreTerm) (stop : Stop) → Tells A i T l r side (suc between) w m store stop → Tells A i T l r side left u s store stop
+  tells_from left between u w s m c g store (At q) h = record {
+    store = h.store;
+    means = h.means;
+    comes = comes_through u w (work_at i side q) s m h.store c h.comes;
+    gets_on =
+        gets_on_through c.steps h.comes.steps (comes_through u w (work_at i side q) s m h.store c h.comes).steps left between (left_count side q)
+        (steps_through u w (work_at i side q) s m h.store c h.comes) g h.gets_on;
+  }
+  tells_from left between u w s m c g store Stuck h = λ t e. h t (reaches_behind u w s m t c e)
+
+  tells_more : (left more : ℕ) → left ≤ more → (work : List Item) (s : Store) (store : StoreTerm) (stop : Stop) → Tells A i T l r side left work s store stop → Tells A i T l r side more work s store stop
+  tells_more left more le work s store (At q) h = record { store = h.store; means = h.means; comes = h.comes; gets_on = gets_on_more h.comes.steps (left_count side q) left more h.gets_on le }
+  tells_more left more le work s store Stuck h = h
+
+  one_more : (left more : ℕ) → left ≤ more → (work : List Item) (s : Store) (all : List Path) → OnePath A i T l r side left work s all → OnePath A i T l r side more work s all
+  one_more left more le work s all one = record { path = one.path; only = one.only; tells = tells_more left more le work s one.path.store one.path.stop one.tells }
+
 -- ---- exactly one path
 module _ (A : Type 0) (i : Instance) (T : List Entry) (l r : Store) (faithful : Faithful A i T) (side : Block) (names : block_is_open side ≡ true) (plain : has_scope side ≡ false) (cuts : List ℕ) where
-  -- steps in front change nothing of what is told
-  tells_from : (u w : List Item) (s m : Store) → Comes u s w m → (store : StoreTerm) (stop : Stop) → Tells A i T l r side w m store stop → Tells A i T l r side u s store stop
-  tells_from u w s m c store (At q) h = (h.0, h.1, comes_through u w (work_at i side q) s m h.0 c h.2)
-  tells_from u w s m c store Stuck h = λ t e. h t (reaches_behind u w s m t c e)
+  abbrev Told : ℕ → List Item → Store → List Path → Type 0
+  Told left work s all = OnePath A i T l r side left work s all
 
-  abbrev Told : List Item → Store → List Path → Type 0
-  Told work s all = OnePath A i T l r side work s all
-
-  -- walks from a rest of the side, within n steps
+  -- walks from a rest of the side, within n steps; they may stop before the first
   abbrev Walked : ℕ → Type 0
   Walked n = (rest : Rest) (ls : List Literal) (u : StoreTerm) (s : Store) → Stands (rests side) rest → list_all (literal_truth i T l r) ls ≡ true → store_of i T l r u ≡ Some s
       → CoversStores i T l r (walks n cuts (exit_point side) (stands ls u rest)) → goes_on (suc n) cuts (exit_point side) (stands ls u rest) ≡ false
-      → Told (work_of i rest) s (walks n cuts (exit_point side) (stands ls u rest))
+      → Told (suc (rest_length rest)) (work_of i rest) s (walks n cuts (exit_point side) (stands ls u rest))
 
   -- a walk that has stopped
   stopped : (rest : Rest) (ls : List Literal) (u : StoreTerm) (s : Store) → Stands (rests side) rest → list_all (literal_truth i T l r) ls ≡ true → store_of i T l r u ≡ Some s
-      → (stop : Stop) → rest_stop cuts (exit_point side) rest ≡ Some stop → Told (work_of i rest) s (record { literals = ls; store = u; stop = stop } ∷ [])
+      → (stop : Stop) → rest_stop cuts (exit_point side) rest ≡ Some stop → Told (suc (rest_length rest)) (work_of i rest) s (record { literals = ls; store = u; stop = stop } ∷ [])
   stopped rest ls u s h so_far is_s stop e =
-      let there : Stopped (rests side) rest stop = stops (rests side) cuts rest h stop (ap (λ n. rest_stop cuts n rest) (exit_is side plain) ∙ e) in
+      let there : Stopped (rests side) rest stop = stops (rests side) cuts rest (omega arith) h stop (ap (λ n. rest_stop cuts n rest) (exit_is side plain) ∙ e) in
       let same : work_of i rest ≡ work_at i side there.point = ap (λ b. before (fill i b) []) there.same in
-      let told : Tells A i T l r side (work_of i rest) s u (At there.point) = (s, is_s, comes_same (work_of i rest) (work_at i side there.point) s same) in
+      let as_many : left_count side there.point ≡ rest_length rest = left_inside side there.point there.inside ∙ ap block_length (sym there.same) in
+      let told : StopsAt i T l r side (suc (rest_length rest)) (work_of i rest) s u there.point =
+      record { store = s; means = is_s; comes = comes_same (work_of i rest) (work_at i side there.point) s same; gets_on = inr (omega (arith, as_many)) } in
       record {
         path = record { literals = ls; store = u; stop = stop };
         only = only_one (is_taken i T l r) (record { literals = ls; store = u; stop = stop }) so_far;
-        tells = subst (λ x. Tells A i T l r side (work_of i rest) s u x) (sym there.is) told;
+        tells = subst (λ x. Tells A i T l r side (suc (rest_length rest)) (work_of i rest) s u x) (sym there.is) told;
       }
 
   -- on from the one true walk of a step
-  on_from : (n : ℕ) → Walked n → (work : List Item) (s : Store) (ls : List Literal) (u : StoreTerm) (next : Option Rest) → list_all (literal_truth i T l r) ls ≡ true → Onward A i T l r (rests side) work s u next
+  on_from : (n : ℕ) → Walked n → (left : ℕ) (work : List Item) (s : Store) (ls : List Literal) (u : StoreTerm) (next : Option Rest) → list_all (literal_truth i T l r) ls ≡ true → Onward A i T l r (rests side) left work s u next
       → CoversStores i T l r (walks n cuts (exit_point side) (record { literals = ls; store = u; next = next }))
       → goes_on (suc n) cuts (exit_point side) (record { literals = ls; store = u; next = next }) ≡ false
-      → Told work s (walks n cuts (exit_point side) (record { literals = ls; store = u; next = next }))
-  on_from n walked work s ls u None so_far onward c g = record {
+      → Told left work s (walks n cuts (exit_point side) (record { literals = ls; store = u; next = next }))
+  on_from n walked left work s ls u None so_far onward c g = record {
     path = record { literals = ls; store = u; stop = Stuck };
     only = ap (filter (is_taken i T l r)) (stuck_walk n cuts (exit_point side) ls u) ∙ only_one (is_taken i T l r) (record { literals = ls; store = u; stop = Stuck }) so_far;
     tells = onward;
   }
-  on_from n walked work s ls u (Some rest) so_far onward c g =
-      let one : Told (work_of i rest) onward.0 (walks n cuts (exit_point side) (stands ls u rest)) = walked rest ls u onward.0 onward.2 so_far onward.1 c g in
-      record { path = one.path; only = one.only; tells = tells_from work (work_of i rest) s onward.0 onward.3 one.path.store one.path.stop one.tells }
+  on_from n walked left work s ls u (Some rest) so_far on c g =
+      let one : Told (suc (rest_length rest)) (work_of i rest) on.store (walks n cuts (exit_point side) (stands ls u rest)) = walked rest ls u on.store on.placed so_far on.means c g in
+      record {
+        path = one.path;
+        only = one.only;
+        tells = tells_from A i T l r side left (rest_length rest) work (work_of i rest) s on.store on.comes on.gets_on one.path.store one.path.stop one.tells;
+      }
 
   -- from a rest whose first statement is done first, whether or not a walk may stop there
   pub by_step : (n : ℕ) → Walked n → (rest : Rest) (ls : List Literal) (u : StoreTerm) (s : Store) → Stands (rests side) rest → Moves rest → list_all (literal_truth i T l r) ls ≡ true → store_of i T l r u ≡ Some s
       → CoversStores i T l r (flat_map (walks n cuts (exit_point side)) (rest_step rest ls u)) → list_any (goes_on (suc n) cuts (exit_point side)) (rest_step rest ls u) ≡ false
-      → Told (work_of i rest) s (flat_map (walks n cuts (exit_point side)) (rest_step rest ls u))
+      → Told (rest_length rest) (work_of i rest) s (flat_map (walks n cuts (exit_point side)) (rest_step rest ls u))
   by_step n walked rest ls u s h m so_far is_s c g =
       let exit : ℕ = exit_point side in
-      let once : OneStep A i T l r (rests side) (work_of i rest) s (rest_step rest ls u) = rest_once A i T l r faithful (rests side) ls u s so_far is_s rest h m (covers_next i T l r n cuts exit rest ls u c) in
+      let once : OneStep A i T l r (rests side) (rest_length rest) (work_of i rest) s (rest_step rest ls u) = rest_once A i T l r faithful (rests side) ls u s so_far is_s rest h m (covers_next i T l r n cuts exit rest ls u c) in
       let w : Walk = record { literals = once.literals; store = once.store; next = once.next } in
       let there : Among w (rest_step rest ls u) = among (is_true i T l r) (rest_step rest ls u) w once.only in
       let covers : CoversStores i T l r (walks n cuts exit w) = among_made (walks n cuts exit) (λ ps. CoversStores i T l r ps) (covers_cut i T l r) (rest_step rest ls u) w there c in
       let short : goes_on (suc n) cuts exit w ≡ false = among_any (goes_on (suc n) cuts exit) (rest_step rest ls u) w there g in
-      let one : Told (work_of i rest) s (walks n cuts exit w) =
-      on_from n walked (work_of i rest) s once.literals once.store once.next (passes (is_true i T l r) (rest_step rest ls u) w once.only) once.onward covers short in
+      let one : Told (rest_length rest) (work_of i rest) s (walks n cuts exit w) =
+      on_from n walked (rest_length rest) (work_of i rest) s once.literals once.store once.next (passes (is_true i T l r) (rest_step rest ls u) w once.only) once.onward covers short in
       record {
         path = one.path;
         only = one_led (is_true i T l r) (is_taken i T l r) (walks n cuts exit) (never_taken i T l r cuts exit n) (rest_step rest ls u) w once.only ∙ one.only;
@@ -170,7 +197,7 @@ module _ (A : Type 0) (i : Instance) (T : List Entry) (l r : Store) (faithful : 
   no_step : (rest : Rest) (ls : List Literal) (u : StoreTerm) (s : Store) → Stands (rests side) rest → list_all (literal_truth i T l r) ls ≡ true → store_of i T l r u ≡ Some s
       → (o : Option Stop) → rest_stop cuts (exit_point side) rest ≡ o
       → elim o as (λ x. Bool) [ None ↦ list_any (goes_on zero cuts (exit_point side)) (rest_step rest ls u) | Some stop ↦ false ] ≡ false
-      → Told (work_of i rest) s (elim o as (λ x. List Path) [ None ↦ [] | Some stop ↦ record { literals = ls; store = u; stop = stop } ∷ [] ])
+      → Told (suc (rest_length rest)) (work_of i rest) s (elim o as (λ x. List Path) [ None ↦ [] | Some stop ↦ record { literals = ls; store = u; stop = stop } ∷ [] ])
   no_step rest ls u s h so_far is_s None e g =
       absurd (true≢false (sym (step_there (rests side) cuts (exit_point side) rest ls u h (moves cuts (exit_point side) rest e)) ∙ g))
   no_step rest ls u s h so_far is_s (Some stop) e g = stopped rest ls u s h so_far is_s stop e
@@ -179,8 +206,9 @@ module _ (A : Type 0) (i : Instance) (T : List Entry) (l r : Store) (faithful : 
       → (o : Option Stop) → rest_stop cuts (exit_point side) rest ≡ o
       → CoversStores i T l r (elim o as (λ x. List Path) [ None ↦ flat_map (walks n cuts (exit_point side)) (rest_step rest ls u) | Some stop ↦ record { literals = ls; store = u; stop = stop } ∷ [] ])
       → elim o as (λ x. Bool) [ None ↦ list_any (goes_on (suc n) cuts (exit_point side)) (rest_step rest ls u) | Some stop ↦ false ] ≡ false
-      → Told (work_of i rest) s (elim o as (λ x. List Path) [ None ↦ flat_map (walks n cuts (exit_point side)) (rest_step rest ls u) | Some stop ↦ record { literals = ls; store = u; stop = stop } ∷ [] ])
-  next_step n walked rest ls u s h so_far is_s None e c g = by_step n walked rest ls u s h (moves cuts (exit_point side) rest e) so_far is_s c g
+      → Told (suc (rest_length rest)) (work_of i rest) s (elim o as (λ x. List Path) [ None ↦ flat_map (walks n cuts (exit_point side)) (rest_step rest ls u) | Some stop ↦ record { literals = ls; store = u; stop = stop } ∷ [] ])
+  next_step n walked rest ls u s h so_far is_s None e c g =
+      one_more A i T l r side (rest_length rest) (suc (rest_length rest)) (omega arith) (work_of i rest) s _ (by_step n walked rest ls u s h (moves cuts (exit_point side) rest e) so_far is_s c g)
   next_step n walked rest ls u s h so_far is_s (Some stop) e c g = stopped rest ls u s h so_far is_s stop e
 
   within_none : Walked zero
@@ -197,7 +225,7 @@ module _ (A : Type 0) (i : Instance) (T : List Entry) (l r : Store) (faithful : 
 
   -- from a point
   pub one_path : (u : StoreTerm) (s : Store) → store_of i T l r u ≡ Some s → (p : ℕ) → p < exit_point side → has_long_walk side cuts u p ≡ false → CoversStores i T l r (side_paths side cuts u p)
-      → Told (work_at i side p) s (side_paths side cuts u p)
+      → Told (left_count side p) (work_at i side p) s (side_paths side cuts u p)
   unfolding side_paths has_long_walk
   one_path u s is_s zero lt g c = walked 64 (rest_at side 0) [] u s (start_stands side names plain) refl is_s c g
   one_path u s is_s (suc p) lt g c =
@@ -213,7 +241,7 @@ its_term_means i T l r Right = refl
 pub path_law : (A : Type 0) (i : Instance) (T : List Entry) (l r : Store) → Faithful A i T → (rule : Rule) (cuts : CutPoints) (side : Side) (p : ℕ)
     → block_is_open (side_of rule side) ≡ true → has_scope (side_of rule side) ≡ false → p < exit_point (side_of rule side)
     → has_long_walk (side_of rule side) (cuts_of cuts side) (term_of side) p ≡ false → CoversStores i T l r (paths rule cuts side p)
-    → OnePath A i T l r (side_of rule side) (work_at i (side_of rule side) p) (its_store side l r) (paths rule cuts side p)
+    → OnePath A i T l r (side_of rule side) (left_count (side_of rule side) p) (work_at i (side_of rule side) p) (its_store side l r) (paths rule cuts side p)
 path_law A i T l r faithful rule cuts side p names plain lt g c =
     one_path A i T l r faithful (side_of rule side) names plain (cuts_of cuts side) (term_of side) (its_store side l r) (its_term_means i T l r side) p lt g c
 

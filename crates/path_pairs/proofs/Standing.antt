@@ -66,13 +66,15 @@ module _ {X : Type 0} where
       let more : length (drop n all) ≡ suc (length (xs ++ h.behind)) = ap length h.is in
       omega (arith, left, more)
 
--- ---- stretches that stand at their places, of statements in which all names are open and which have no `for` and no `let`
+-- ---- stretches that stand at their places, none of which is the start, of statements in which all names are open and which have no `for` and no `let`
 pub record Placed (all : List Rest) (n : ℕ) (b : Block) (rest : Rest) : Type 0 where
+  pub inside : 1 ≤ n
   pub part : From all n (block_rests n b rest)
   pub names : block_is_open b ≡ true
   pub plain : has_scope b ≡ false
 
 pub record PlacedStmt (all : List Rest) (n : ℕ) (a : Stmt) (here behind : Rest) : Type 0 where
+  pub inside : 1 ≤ n
   pub part : From all n (stmt_rests n a here behind)
   pub names : stmt_is_open a ≡ true
   pub plain : stmt_has_scope a ≡ false
@@ -90,6 +92,7 @@ Moves (stretch n (stmt a b) ∷ rest) = Unit {0}
 module _ (all : List Rest) (n : ℕ) where
   pub first_placed : (a : Stmt) (b : Block) (rest : Rest) → Placed all n (stmt a b) rest → PlacedStmt all n a (stretch n (stmt a b) ∷ rest) (stretch (n + stmt_count a) b ∷ rest)
   first_placed a b rest h = record {
+    inside = h.inside;
     part = front_part all n (stmt_rests n a (stretch n (stmt a b) ∷ rest) (stretch (n + stmt_count a) b ∷ rest)) (block_rests (n + stmt_count a) b rest) h.part;
     names = (and_parts _ _ h.names).0;
     plain = (or_parts _ _ h.plain).0;
@@ -97,6 +100,7 @@ module _ (all : List Rest) (n : ℕ) where
 
   pub behind_placed : (a : Stmt) (b : Block) (rest : Rest) → Placed all n (stmt a b) rest → Placed all (n + stmt_count a) b rest
   behind_placed a b rest h = record {
+    inside = let front : 1 ≤ n = h.inside in omega (arith, front);
     part =
         back_part all n (stmt_count a) (stmt_rests n a (stretch n (stmt a b) ∷ rest) (stretch (n + stmt_count a) b ∷ rest)) (block_rests (n + stmt_count a) b rest)
         (as_many_rests_inside n a (stretch n (stmt a b) ∷ rest) (stretch (n + stmt_count a) b ∷ rest) (or_parts _ _ h.plain).0) h.part;
@@ -107,6 +111,7 @@ module _ (all : List Rest) (n : ℕ) where
   module _ (t : Test) (c d : Block) (here behind : Rest) where
     pub first_block_placed : PlacedStmt all n (if_then t c d) here behind → Placed all n c behind
     first_block_placed h = record {
+      inside = h.inside;
       part = front_part all n (block_rests n c behind) (block_rests (n + point_count c) d behind) h.part;
       names = (and_parts _ _ (and_parts _ _ h.names).1).0;
       plain = (or_parts _ _ h.plain).0;
@@ -114,6 +119,7 @@ module _ (all : List Rest) (n : ℕ) where
 
     pub second_block_placed : PlacedStmt all n (if_then t c d) here behind → Placed all (n + point_count c) d behind
     second_block_placed h = record {
+      inside = let front : 1 ≤ n = h.inside in omega (arith, front);
       part =
           back_part all n (point_count c) (block_rests n c behind) (block_rests (n + point_count c) d behind)
           (as_many_rests n c behind (or_parts _ _ h.plain).0) h.part;
@@ -125,6 +131,7 @@ module _ (all : List Rest) (n : ℕ) where
   body_placed t c here behind h =
       let next : n + 1 ≡ suc n = omega arith in
       record {
+        inside = omega arith;
         part = subst (λ m. From all m (block_rests (suc n) c here)) next (back_part all n 1 (here ∷ []) (block_rests (suc n) c here) refl h.part);
         names = (and_parts _ _ h.names).1;
         plain = h.plain;
@@ -167,7 +174,7 @@ mutual
       (inside_block all (n + stmt_count a) b rest (behind_placed all n a b rest h) g)
 
 pub side_placed : (side : Block) → block_is_open side ≡ true → has_scope side ≡ false → Placed (rests side) 1 side []
-side_placed side names plain = record { part = record { behind = []; is = sym (append-nil (block_rests 1 side [])) }; names = names; plain = plain }
+side_placed side names plain = record { inside = omega arith; part = record { behind = []; is = sym (append-nil (block_rests 1 side [])) }; names = names; plain = plain }
 
 pub start_stands : (side : Block) → block_is_open side ≡ true → has_scope side ≡ false → Stands (rests side) (rest_at side 0)
 start_stands side names plain = (side_placed side names plain, tt)
@@ -187,39 +194,41 @@ exit_is_empty side plain = let e : length (rests side) ≡ exit_point side = exi
 -- ---- where a walk stops
 pub record Stopped (all : List Rest) (rest : Rest) (stop : Stop) : Type 0 where
   pub point : ℕ
+  pub inside : 1 ≤ point
   pub is : stop ≡ At point
   pub within : point ≤ length all
   pub same : rest_statements rest ≡ rest_statements (slice_index_or all point [])
 
-cut_stops : (q : Bool) (all : List Rest) (n : ℕ) (here : Rest) (stop : Stop) → n ≤ length all → slice_index_or all n [] ≡ here → cond q (Some (At n)) None ≡ Some stop → Stopped all here stop
-cut_stops true all n here stop le h e = record { point = n; is = sym (some_equal (At n) stop e); within = le; same = ap rest_statements (sym h) }
-cut_stops false all n here stop le h e = none_some stop e
+cut_stops : (q : Bool) (all : List Rest) (n : ℕ) (here : Rest) (stop : Stop) → 1 ≤ n → n ≤ length all → slice_index_or all n [] ≡ here → cond q (Some (At n)) None ≡ Some stop → Stopped all here stop
+cut_stops true all n here stop front le h e = record { point = n; inside = front; is = sym (some_equal (At n) stop e); within = le; same = ap rest_statements (sym h) }
+cut_stops false all n here stop front le h e = none_some stop e
 
-stmt_stops : (all : List Rest) (cuts : List ℕ) (n : ℕ) (a : Stmt) (here behind : Rest) → From all n (stmt_rests n a here behind) → (stop : Stop) → stmt_stop cuts n a ≡ Some stop → Stopped all here stop
-stmt_stops all cuts n skip here behind h stop e = none_some stop e
-stmt_stops all cuts n (put x is v) here behind h stop e = none_some stop e
-stmt_stops all cuts n (if_then t c d) here behind h stop e = none_some stop e
-stmt_stops all cuts n (while_do t c) here behind h stop e =
+stmt_stops : (all : List Rest) (cuts : List ℕ) (n : ℕ) (a : Stmt) (here behind : Rest) → 1 ≤ n → From all n (stmt_rests n a here behind) → (stop : Stop) → stmt_stop cuts n a ≡ Some stop → Stopped all here stop
+stmt_stops all cuts n skip here behind front h stop e = none_some stop e
+stmt_stops all cuts n (put x is v) here behind front h stop e = none_some stop e
+stmt_stops all cuts n (if_then t c d) here behind front h stop e = none_some stop e
+stmt_stops all cuts n (while_do t c) here behind front h stop e =
     let lt : n < length all = part_within all n here (block_rests (suc n) c here) h in
-    cut_stops (is_cut cuts n) all n here stop (omega (arith, lt)) (first_at all n here [] (block_rests (suc n) c here) h) e
-stmt_stops all cuts n (for_to x lo hi c) here behind h stop e = none_some stop e
-stmt_stops all cuts n (let_in x v c) here behind h stop e = none_some stop e
-stmt_stops all cuts n (par_stmt k) here behind h stop e =
+    cut_stops (is_cut cuts n) all n here stop front (omega (arith, lt)) (first_at all n here [] (block_rests (suc n) c here) h) e
+stmt_stops all cuts n (for_to x lo hi c) here behind front h stop e = none_some stop e
+stmt_stops all cuts n (let_in x v c) here behind front h stop e = none_some stop e
+stmt_stops all cuts n (par_stmt k) here behind front h stop e =
     let lt : n < length all = part_within all n here [] h in
-    cut_stops (is_cut cuts n) all n here stop (omega (arith, lt)) (first_at all n here [] [] h) e
+    cut_stops (is_cut cuts n) all n here stop front (omega (arith, lt)) (first_at all n here [] [] h) e
 
-pub stops : (all : List Rest) (cuts : List ℕ) (rest : Rest) → Stands all rest → (stop : Stop) → rest_stop cuts (length all) rest ≡ Some stop → Stopped all rest stop
-stops all cuts [] h stop e = record {
+pub stops : (all : List Rest) (cuts : List ℕ) (rest : Rest) → 1 ≤ length all → Stands all rest → (stop : Stop) → rest_stop cuts (length all) rest ≡ Some stop → Stopped all rest stop
+stops all cuts [] some h stop e = record {
   point = length all;
+  inside = some;
   is = sym (some_equal (At (length all)) stop e);
   within = omega arith;
   same = ap rest_statements (sym (get_or_past all (length all) [] (omega arith)));
 }
-stops all cuts (stretch n empty ∷ rest) h stop e =
-    let on : Stopped all rest stop = stops all cuts rest h.1 stop e in
-    record { point = on.point; is = on.is; within = on.within; same = on.same }
-stops all cuts (stretch n (stmt a b) ∷ rest) h stop e =
-    stmt_stops all cuts n a (stretch n (stmt a b) ∷ rest) (stretch (n + stmt_count a) b ∷ rest) (first_placed all n a b rest h.0).part stop e
+stops all cuts (stretch n empty ∷ rest) some h stop e =
+    let on : Stopped all rest stop = stops all cuts rest some h.1 stop e in
+    record { point = on.point; inside = on.inside; is = on.is; within = on.within; same = on.same }
+stops all cuts (stretch n (stmt a b) ∷ rest) some h stop e =
+    stmt_stops all cuts n a (stretch n (stmt a b) ∷ rest) (stretch (n + stmt_count a) b ∷ rest) h.0.inside (first_placed all n a b rest h.0).part stop e
 
 -- where it does not stop, a statement stands next
 pub moves : (cuts : List ℕ) (exit : ℕ) (rest : Rest) → rest_stop cuts exit rest ≡ None → Moves rest

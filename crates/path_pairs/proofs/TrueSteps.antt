@@ -1,8 +1,8 @@
 -- One step of the walks from a rest at a store term that means a store: where the literals are true so far, they stay true for
 -- exactly one walk, and it tells what a run of the rest does. Where they are not true so far, they are so for none.
-use Rattle.std.specs.Prelude.{◌≡◌, ℕ, suc, ◌+◌, Bool, true, false, cond, not, ◌&&◌, List, [], ◌∷◌, ◌++◌, map, filter, Option, Some, None, is_some, refl}
+use Rattle.std.specs.Prelude.{◌≡◌, ℕ, suc, ◌+◌, ◌<◌, Bool, true, false, cond, not, ◌&&◌, List, [], ◌∷◌, ◌++◌, map, filter, Option, Some, None, is_some, refl}
 use Rattle.std.specs.List.{list_all}
-use Rattle.std.proofs.Common.{sym, ◌∙◌, ap, subst, true≢false}
+use Rattle.std.proofs.Common.{sym, ◌∙◌, ap, subst, true≢false, inl, inr, arith}
 use Rattle.std.proofs.lemmas.Bool.{and_parts}
 use Rattle.std.proofs.lemmas.List.Folds.{list_all-append}
 use Rattle.toy_imp.specs.declared.instance.Instance.{Instance}
@@ -34,10 +34,10 @@ use Rattle.term_meaning.proofs.Valuing.{value_at_means, values_at_mean}
 use Rattle.path_pairs.specs.Comes.{Comes}
 use Rattle.path_pairs.specs.Open.{test_is_open}
 use Rattle.path_pairs.specs.Outcomes.{outcomes}
-use Rattle.path_pairs.specs.PathLaws.{work_of}
+use Rattle.path_pairs.specs.PathLaws.{work_of, rest_length, GetsOn}
 use Rattle.path_pairs.specs.Rests.{Rest, stretch, rest_statements}
 use Rattle.path_pairs.specs.Walks.{Walk, stands, by_each, stmt_step, rest_step}
-use Rattle.path_pairs.proofs.Comings.{comes_by_step, done_comes}
+use Rattle.path_pairs.proofs.Comings.{ComesByStep, one_step, done_comes}
 use Rattle.path_pairs.proofs.OutcomeTruths.{true_outcome, no_true_outcome}
 use Rattle.path_pairs.proofs.Passing.{filter-map, none_made, only_one, not_one, first_of_two, second_of_two, none_of_two, in_first, in_second, in_neither}
 use Rattle.path_pairs.proofs.Standing.{PlacedStmt, Stands, Moves, first_placed, behind_placed, first_block_placed, second_block_placed, body_placed}
@@ -65,21 +65,29 @@ CoversNext i T l r [] u = Unit {0}
 CoversNext i T l r (stretch n empty ∷ rest) u = CoversNext i T l r rest u
 CoversNext i T l r (stretch n (stmt a b) ∷ rest) u = CoversRun i T l r a u
 
+-- what the one walk tells that stands before a rest: the run has come there, by some step or with fewer statements left than `left`
+pub record StandsBefore (i : Instance) (T : List Entry) (l r : Store) (all : List Rest) (left : ℕ) (work : List Item) (s : Store) (u : StoreTerm) (rest : Rest) : Type 0 where
+  pub store : Store
+  pub means : store_of i T l r u ≡ Some store
+  pub placed : Stands all rest
+  pub comes : Comes work s (work_of i rest) store
+  pub gets_on : GetsOn comes.steps (rest_length rest) left
+
 -- what the one walk tells, by what stands next for it
-abbrev pub Onward : Type 0 → Instance → List Entry → Store → Store → List Rest → List Item → Store → StoreTerm → Option Rest → Type 0
-Onward A i T l r all work s u None = (t : Store) → Reaches work s t → A
-Onward A i T l r all work s u (Some rest) = (m : Store) × (store_of i T l r u ≡ Some m) × Stands all rest × Comes work s (work_of i rest) m
+abbrev pub Onward : Type 0 → Instance → List Entry → Store → Store → List Rest → ℕ → List Item → Store → StoreTerm → Option Rest → Type 0
+Onward A i T l r all left work s u None = (t : Store) → Reaches work s t → A
+Onward A i T l r all left work s u (Some rest) = StandsBefore i T l r all left work s u rest
 
 abbrev pub is_true : Instance → List Entry → Store → Store → Walk → Bool
 is_true i T l r w = list_all (literal_truth i T l r) w.literals
 
 -- of the walks of one step from work in the store s, one is true
-pub record OneStep (A : Type 0) (i : Instance) (T : List Entry) (l r : Store) (all : List Rest) (work : List Item) (s : Store) (found : List Walk) : Type 0 where
+pub record OneStep (A : Type 0) (i : Instance) (T : List Entry) (l r : Store) (all : List Rest) (left : ℕ) (work : List Item) (s : Store) (found : List Walk) : Type 0 where
   pub literals : List Literal
   pub store : StoreTerm
   pub next : Option Rest
   pub only : filter (is_true i T l r) found ≡ record { literals = literals; store = store; next = next } ∷ []
-  pub onward : Onward A i T l r all work s store next
+  pub onward : Onward A i T l r all left work s store next
 
 either_stands : (all : List Rest) (b : Bool) (yes_rest no_rest : Rest) → Stands all yes_rest → Stands all no_rest → Stands all (cond b yes_rest no_rest)
 either_stands all true yes_rest no_rest h g = h
@@ -88,28 +96,28 @@ either_stands all false yes_rest no_rest h g = g
 -- ---- where the filled statement brings the run
 module _ (i : Instance) (s : Store) where
   if_comes : (t : Test) (c d : Block) (k m : ℕ) (behind : Rest) (b : Bool) → truth (fill_test i t) s ≡ b
-      → Comes (act (if_then (fill_test i t) (fill i c) (fill i d)) ∷ work_of i behind) s (work_of i (cond b (stretch k c ∷ behind) (stretch m d ∷ behind))) s
+      → ComesByStep (act (if_then (fill_test i t) (fill i c) (fill i d)) ∷ work_of i behind) s (work_of i (cond b (stretch k c ∷ behind) (stretch m d ∷ behind))) s
   unfolding step
   if_comes t c d k m behind b e =
       let first : List Item = act (if_then (fill_test i t) (fill i c) (fill i d)) ∷ work_of i behind in
       let chosen : List Item = cond (truth (fill_test i t) s) (before (fill i c) (work_of i behind)) (before (fill i d) (work_of i behind)) in
-      let one : Comes first s chosen s = comes_by_step (act (if_then (fill_test i t) (fill i c) (fill i d))) (work_of i behind) s in
-      subst (λ w. Comes first s w s) (ap (λ x. cond x (before (fill i c) (work_of i behind)) (before (fill i d) (work_of i behind))) e ∙ chosen_work b) one
+      let one : ComesByStep first s chosen s = one_step (act (if_then (fill_test i t) (fill i c) (fill i d))) (work_of i behind) s in
+      subst (λ w. ComesByStep first s w s) (ap (λ x. cond x (before (fill i c) (work_of i behind)) (before (fill i d) (work_of i behind))) e ∙ chosen_work b) one
     where
       chosen_work : (x : Bool) → cond x (before (fill i c) (work_of i behind)) (before (fill i d) (work_of i behind)) ≡ work_of i (cond x (stretch k c ∷ behind) (stretch m d ∷ behind))
       chosen_work true = sym (filled_work_by_parts i c (rest_statements behind) [])
       chosen_work false = sym (filled_work_by_parts i d (rest_statements behind) [])
 
   while_comes : (t : Test) (c : Block) (k : ℕ) (here behind : Rest) (b : Bool) → truth (fill_test i t) s ≡ b → work_of i here ≡ act (while_do (fill_test i t) (fill i c)) ∷ work_of i behind
-      → Comes (work_of i here) s (work_of i (cond b (stretch k c ∷ here) behind)) s
+      → ComesByStep (work_of i here) s (work_of i (cond b (stretch k c ∷ here) behind)) s
   unfolding step
   while_comes t c k here behind b e same =
       let first : List Item = act (while_do (fill_test i t) (fill i c)) ∷ work_of i behind in
       let chosen : List Item = cond (truth (fill_test i t) s) (before (fill i c) first) (work_of i behind) in
-      let one : Comes first s chosen s = comes_by_step (act (while_do (fill_test i t) (fill i c))) (work_of i behind) s in
+      let one : ComesByStep first s chosen s = one_step (act (while_do (fill_test i t) (fill i c))) (work_of i behind) s in
       let chosen_is : chosen ≡ cond b (before (fill i c) (work_of i here)) (work_of i behind) =
       λ j. cond (e j) (before (fill i c) (sym same j)) (work_of i behind) in
-      subst (λ w. Comes w s (work_of i (cond b (stretch k c ∷ here) behind)) s) (sym same) (subst (λ w. Comes first s w s) (chosen_is ∙ chosen_work b) one)
+      subst (λ w. ComesByStep w s (work_of i (cond b (stretch k c ∷ here) behind)) s) (sym same) (subst (λ w. ComesByStep first s w s) (chosen_is ∙ chosen_work b) one)
     where
       chosen_work : (x : Bool) → cond x (before (fill i c) (work_of i here)) (work_of i behind) ≡ work_of i (cond x (stretch k c ∷ here) behind)
       chosen_work true = sym (filled_work_by_parts i c (rest_statements here) [])
@@ -154,9 +162,12 @@ module _ (A : Type 0) (i : Instance) (T : List Entry) (l r : Store) (faithful : 
   unfolding atom_truth
   ends_literal sign k o e = more_true (record { sign = sign; atom = Ends (run k u) } ∷ []) ∙ ap (λ p. signed sign (is_some p) && true) e
 
-  -- a statement parameter, by what the table says of its run
+  by_some_step : (left : ℕ) (work : List Item) (v : StoreTerm) (m : Store) (rest : Rest) → store_of i T l r v ≡ Some m → Stands all rest → ComesByStep work s (work_of i rest) m → StandsBefore i T l r all left work s v rest
+  by_some_step left work v m rest e h c = record { store = m; means = e; placed = h; comes = c.comes; gets_on = inl c.some }
+
+  -- a statement parameter, by what the table says of its run; it may stand for the empty block, but is no longer left
   par_once : (k : ℕ) (behind : Rest) → Stands all behind → (o : Option Store) → store_of i T l r (run k u) ≡ o → Agrees A i k s o
-      → OneStep A i T l r all (before (append (block_at i k) (fill i (rest_statements behind))) []) s (
+      → OneStep A i T l r all (suc (rest_length behind)) (before (append (block_at i k) (fill i (rest_statements behind))) []) s (
       stands (ls ++ record { sign = true; atom = Ends (run k u) } ∷ []) (run k u) behind
       ∷ record { literals = ls ++ record { sign = false; atom = Ends (run k u) } ∷ []; store = run k u; next = None } ∷ [])
   par_once k behind h None e said = record {
@@ -178,7 +189,13 @@ module _ (A : Type 0) (i : Instance) (T : List Entry) (l r : Store) (faithful : 
     onward =
         let parts : before (append (block_at i k) (fill i (rest_statements behind))) [] ≡ before (block_at i k) [] ++ work_of i behind =
         before-append (block_at i k) (fill i (rest_statements behind)) [] ∙ before-split (block_at i k) (work_of i behind) in
-        (m, e, h, subst (λ w. Comes w s (work_of i behind) m) (sym parts) (done_comes (before (block_at i k) []) (work_of i behind) s m said));
+        record {
+          store = m;
+          means = e;
+          placed = h;
+          comes = subst (λ w. Comes w s (work_of i behind) m) (sym parts) (done_comes (before (block_at i k) []) (work_of i behind) s m said);
+          gets_on = inr (omega arith);
+        };
   }
 
   run_said : (k : ℕ) → CoversStore i T l r (run k u) → Agrees A i k s (store_of i T l r (run k u))
@@ -186,26 +203,23 @@ module _ (A : Type 0) (i : Instance) (T : List Entry) (l r : Store) (faithful : 
 
   stmt_once : (n : ℕ) (a : Stmt) (b : Block) (rest : Rest) → PlacedStmt all n a (stretch n (stmt a b) ∷ rest) (stretch (n + stmt_count a) b ∷ rest)
       → Stands all (stretch n (stmt a b) ∷ rest) → Stands all (stretch (n + stmt_count a) b ∷ rest) → CoversRun i T l r a u
-      → OneStep A i T l r all (work_of i (stretch n (stmt a b) ∷ rest)) s (stmt_step n a (stretch n (stmt a b) ∷ rest) (stretch (n + stmt_count a) b ∷ rest) ls u)
+      → OneStep A i T l r all (rest_length (stretch n (stmt a b) ∷ rest)) (work_of i (stretch n (stmt a b) ∷ rest)) s (stmt_step n a (stretch n (stmt a b) ∷ rest) (stretch (n + stmt_count a) b ∷ rest) ls u)
   unfolding stmt_step fill fill_stmt step
   stmt_once n skip b rest h here behind c = record {
     literals = ls;
     store = u;
     next = Some (stretch (n + 0) b ∷ rest);
     only = only_one (is_true i T l r) (stands ls u (stretch (n + 0) b ∷ rest)) so_far;
-    onward = (s, is_s, behind, comes_by_step (act skip) (work_of i (stretch (n + 0) b ∷ rest)) s);
+    onward = by_some_step _ _ u s (stretch (n + 0) b ∷ rest) is_s behind (one_step (act skip) (work_of i (stretch (n + 0) b ∷ rest)) s);
   }
   stmt_once n (put x is e) b rest h here behind c = record {
     literals = ls;
     store = term.put u (number_of x) (values_at is u) (value_at e u);
     next = Some (stretch (n + 0) b ∷ rest);
     only = only_one (is_true i T l r) (stands ls (term.put u (number_of x) (values_at is u) (value_at e u)) (stretch (n + 0) b ∷ rest)) so_far;
-    onward = (
-      write s (spelled (fill_name i x), values (fill_exprs i is) s) (value (fill_expr i e) s),
-      put_means x is e h.names,
-      behind,
-      comes_by_step (act (put (fill_name i x) (fill_exprs i is) (fill_expr i e))) (work_of i (stretch (n + 0) b ∷ rest)) s,
-    );
+    onward =
+        by_some_step _ _ (term.put u (number_of x) (values_at is u) (value_at e u)) (write s (spelled (fill_name i x), values (fill_exprs i is) s) (value (fill_expr i e) s))
+        (stretch (n + 0) b ∷ rest) (put_means x is e h.names) behind (one_step (act (put (fill_name i x) (fill_exprs i is) (fill_expr i e))) (work_of i (stretch (n + 0) b ∷ rest)) s);
   }
   stmt_once n (if_then t c d) b rest h here behind k =
       let after : Rest = stretch (n + (point_count c + point_count d)) b ∷ rest in
@@ -217,13 +231,11 @@ module _ (A : Type 0) (i : Instance) (T : List Entry) (l r : Store) (faithful : 
         store = u;
         next = Some (cond way (stretch n c ∷ after) (stretch (n + point_count c) d ∷ after));
         only = one.1;
-        onward = (
-          s,
-          is_s,
-          either_stands all way (stretch n c ∷ after) (stretch (n + point_count c) d ∷ after)
-              (first_block_placed all n t c d (stretch n (stmt (if_then t c d) b) ∷ rest) after h, behind) (second_block_placed all n t c d (stretch n (stmt (if_then t c d) b) ∷ rest) after h, behind),
-          if_comes i s t c d n (n + point_count c) after way refl,
-        );
+        onward =
+            by_some_step _ _ u s (cond way (stretch n c ∷ after) (stretch (n + point_count c) d ∷ after)) is_s
+            (either_stands all way (stretch n c ∷ after) (stretch (n + point_count c) d ∷ after)
+                (first_block_placed all n t c d (stretch n (stmt (if_then t c d) b) ∷ rest) after h, behind) (second_block_placed all n t c d (stretch n (stmt (if_then t c d) b) ∷ rest) after h, behind))
+            (if_comes i s t c d n (n + point_count c) after way refl);
       }
   stmt_once n (while_do t c) b rest h here behind k =
       let before_it : Rest = stretch n (stmt (while_do t c) b) ∷ rest in
@@ -236,18 +248,16 @@ module _ (A : Type 0) (i : Instance) (T : List Entry) (l r : Store) (faithful : 
         store = u;
         next = Some (cond way (stretch (suc n) c ∷ before_it) after);
         only = one.1;
-        onward = (
-          s,
-          is_s,
-          either_stands all way (stretch (suc n) c ∷ before_it) after (body_placed all n t c before_it after h, here) behind,
-          while_comes i s t c (suc n) before_it after way refl refl,
-        );
+        onward =
+            by_some_step _ _ u s (cond way (stretch (suc n) c ∷ before_it) after) is_s
+            (either_stands all way (stretch (suc n) c ∷ before_it) after (body_placed all n t c before_it after h, here) behind)
+            (while_comes i s t c (suc n) before_it after way refl refl);
       }
   stmt_once n (for_to x lo hi c) b rest h here behind k = absurd (true≢false h.plain)
   stmt_once n (let_in x e c) b rest h here behind k = absurd (true≢false h.plain)
   stmt_once n (par_stmt j) b rest h here behind c = par_once j (stretch (n + 1) b ∷ rest) behind (store_of i T l r (run j u)) refl (run_said j c)
 
-  pub rest_once : (rest : Rest) → Stands all rest → Moves rest → CoversNext i T l r rest u → OneStep A i T l r all (work_of i rest) s (rest_step rest ls u)
+  pub rest_once : (rest : Rest) → Stands all rest → Moves rest → CoversNext i T l r rest u → OneStep A i T l r all (rest_length rest) (work_of i rest) s (rest_step rest ls u)
   rest_once [] h m c = absurd m
   rest_once (stretch n empty ∷ rest) h m c = rest_once rest h.1 m c
   rest_once (stretch n (stmt a b) ∷ rest) h m c = stmt_once n a b rest (first_placed all n a b rest h.0) h (behind_placed all n a b rest h.0, h.1) c

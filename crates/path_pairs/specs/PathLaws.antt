@@ -1,10 +1,13 @@
 -- The path law: of all paths from a point, the literals of exactly one are true, and it tells how the run from there goes on.
 -- A side is run from its rest at the point, filled; its store is l for the left side and r for the right.
-use Rattle.std.specs.Prelude.{◌≡◌, ◌↔◌, ℕ, ◌+◌, ◌-◌, ◌<◌, ◌≤◌, Bool, true, false, List, [], ◌∷◌, filter, Some}
+-- A path may take no step of the run: a statement parameter may stand for the empty block. Then fewer statements are left where it
+-- stops than where it set out. So along paths the steps that a run still makes, and among as many steps the statements that are
+-- left, get fewer: what is proved of a run path by path is proved by induction on these two numbers, the steps first.
+use Rattle.std.specs.Prelude.{◌≡◌, ◌↔◌, ◌⊎◌, ℕ, zero, suc, ◌+◌, ◌-◌, ◌<◌, ◌≤◌, Bool, true, false, List, [], ◌∷◌, filter, Some}
 use Rattle.std.specs.List.{list_all}
 use Rattle.toy_imp.specs.declared.instance.Instance.{Instance}
 use Rattle.toy_imp.specs.declared.rule.Rule.{Rule}
-use Rattle.toy_imp.specs.Block.{Block}
+use Rattle.toy_imp.specs.Block.{Block, empty, stmt}
 use Rattle.toy_imp.specs.Ends.{Reaches}
 use Rattle.toy_imp.specs.Faults.{has_scope}
 use Rattle.toy_imp.specs.Fill.{fill}
@@ -45,23 +48,47 @@ abbrev pub CoversStores : Instance → List Entry → Store → Store → List P
 CoversStores i T l r [] = Unit {0}
 CoversStores i T l r (path ∷ all) = CoversStore i T l r path.store × CoversStores i T l r all
 
--- What a path tells of the run of some work in the store s, by its store term and its stop. At a point: the term means a store,
--- and the run comes to what is left at the point in that store. Where it is stuck: an end of the run gives the answer A.
-abbrev pub Tells : Type 0 → Instance → List Entry → Store → Store → Block → List Item → Store → StoreTerm → Stop → Type 0
-Tells A i T l r side work s u (At q) = (m : Store) × (store_of i T l r u ≡ Some m) × Comes work s (work_at i side q) m
-Tells A i T l r side work s u Stuck = (t : Store) → Reaches work s t → A
+-- the number of statements of a block, not counting those inside
+abbrev pub block_length : Block → ℕ
+block_length empty = 0
+block_length (stmt a b) = suc (block_length b)
+
+abbrev pub rest_length : Rest → ℕ
+rest_length rest = block_length (rest_statements rest)
+
+-- the number of statements that are left at a point; one more at the start, where a walk may stop before its first step
+abbrev pub left_count : Block → ℕ → ℕ
+left_count side zero = suc (rest_length (rest_at side zero))
+left_count side (suc p) = rest_length (rest_at side (suc p))
+
+-- some step of the run is made, or fewer statements are left now than this number
+abbrev pub GetsOn : ℕ → ℕ → ℕ → Type 0
+GetsOn steps now left = (1 ≤ steps) ⊎ (now < left)
+
+-- What a path tells that stops at a point q, of the run of some work in the store s: its store term means a store, and the run
+-- comes to what is left at q in that store, by some step or with fewer statements left than `left`.
+pub record StopsAt (i : Instance) (T : List Entry) (l r : Store) (side : Block) (left : ℕ) (work : List Item) (s : Store) (u : StoreTerm) (q : ℕ) : Type 0 where
+  pub store : Store
+  pub means : store_of i T l r u ≡ Some store
+  pub comes : Comes work s (work_at i side q) store
+  pub gets_on : GetsOn comes.steps (left_count side q) left
+
+-- What a path tells, by its stop. Where it is stuck: an end of the run gives the answer A.
+abbrev pub Tells : Type 0 → Instance → List Entry → Store → Store → Block → ℕ → List Item → Store → StoreTerm → Stop → Type 0
+Tells A i T l r side left work s u (At q) = StopsAt i T l r side left work s u q
+Tells A i T l r side left work s u Stuck = (t : Store) → Reaches work s t → A
 
 -- exactly one of some paths is taken
-pub record OnePath (A : Type 0) (i : Instance) (T : List Entry) (l r : Store) (side : Block) (work : List Item) (s : Store) (all : List Path) : Type 0 where
+pub record OnePath (A : Type 0) (i : Instance) (T : List Entry) (l r : Store) (side : Block) (left : ℕ) (work : List Item) (s : Store) (all : List Path) : Type 0 where
   pub path : Path
   pub only : filter (is_taken i T l r) all ≡ path ∷ []
-  pub tells : Tells A i T l r side work s path.store path.stop
+  pub tells : Tells A i T l r side left work s path.store path.stop
 
 abbrev pub PathLaw : Type 0
 PathLaw = (f : ℕ → Bool) (i : Instance) (T : List Entry) (l r : Store) → Faithful (Reached f) i T → (rule : Rule) (cuts : CutPoints) (side : Side) (p : ℕ)
     → block_is_open (side_of rule side) ≡ true → has_scope (side_of rule side) ≡ false → p < exit_point (side_of rule side)
     → has_long_walk (side_of rule side) (cuts_of cuts side) (term_of side) p ≡ false → CoversStores i T l r (paths rule cuts side p)
-    → OnePath (Reached f) i T l r (side_of rule side) (work_at i (side_of rule side) p) (its_store side l r) (paths rule cuts side p)
+    → OnePath (Reached f) i T l r (side_of rule side) (left_count (side_of rule side) p) (work_at i (side_of rule side) p) (its_store side l r) (paths rule cuts side p)
 
 -- A run that comes to other work goes on with it: it ends exactly where that other work ends, in the steps that are left.
 pub record GoesOn (first : List Item) (s : Store) (second : List Item) (m : Store) (steps : ℕ) : Type 0 where

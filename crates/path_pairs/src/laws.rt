@@ -3,7 +3,8 @@
 
 ghost use Rattle.path_pairs.specs.PathLaws.{PathLaw, RunGoesOn, AllIsLeftAtStart, RunEndsAtExit};
 
-/// Of all paths from a point, the literals of exactly one are true, and it tells how the run from there goes on.
+/// Of all paths from a point, the literals of exactly one are true, and it tells how the run from there goes on:
+/// by some step, or with fewer statements left.
 pub fn path_law()
     ensures { PathLaw }
 {}
