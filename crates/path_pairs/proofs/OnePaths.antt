@@ -1,6 +1,6 @@
 -- Of all paths from a point the literals of exactly one are true, and it tells how a run of the rest at that point goes on:
 -- by the steps of the walks, each of which has one true walk.
-use Rattle.std.specs.Prelude.{◌≡◌, ℕ, zero, suc, ◌+◌, ◌<◌, ◌≤◌, Bool, true, false, List, [], ◌∷◌, ◌++◌, filter, flat_map, Option, Some, None, refl}
+use Rattle.std.specs.Prelude.{◌≡◌, ℕ, zero, suc, ◌<◌, ◌≤◌, Bool, true, false, List, [], ◌∷◌, ◌++◌, filter, flat_map, Option, Some, None, refl}
 use Rattle.std.specs.List.{list_all, list_any}
 use Rattle.std.proofs.Common.{sym, ◌∙◌, ap, subst, true≢false, inr, arith}
 use Rattle.std.proofs.lemmas.Bool.{or_parts}

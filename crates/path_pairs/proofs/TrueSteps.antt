@@ -1,6 +1,6 @@
 -- One step of the walks from a rest at a store term that means a store: where the literals are true so far, they stay true for
 -- exactly one walk, and it tells what a run of the rest does. Where they are not true so far, they are so for none.
-use Rattle.std.specs.Prelude.{◌≡◌, ℕ, suc, ◌+◌, ◌<◌, Bool, true, false, cond, not, ◌&&◌, List, [], ◌∷◌, ◌++◌, map, filter, Option, Some, None, is_some, refl}
+use Rattle.std.specs.Prelude.{◌≡◌, ℕ, suc, ◌+◌, Bool, true, false, cond, not, ◌&&◌, List, [], ◌∷◌, ◌++◌, map, filter, Option, Some, None, is_some, refl}
 use Rattle.std.specs.List.{list_all}
 use Rattle.std.proofs.Common.{sym, ◌∙◌, ap, subst, true≢false, inl, inr, arith}
 use Rattle.std.proofs.lemmas.Bool.{and_parts}
@@ -234,7 +234,7 @@ module _ (A : Type 0) (i : Instance) (T : List Entry) (l r : Store) (faithful : 
         onward =
             by_some_step _ _ u s (cond way (stretch n c ∷ after) (stretch (n + point_count c) d ∷ after)) is_s
             (either_stands all way (stretch n c ∷ after) (stretch (n + point_count c) d ∷ after)
-                (first_block_placed all n t c d (stretch n (stmt (if_then t c d) b) ∷ rest) after h, behind) (second_block_placed all n t c d (stretch n (stmt (if_then t c d) b) ∷ rest) after h, behind))
+            (first_block_placed all n t c d (stretch n (stmt (if_then t c d) b) ∷ rest) after h, behind) (second_block_placed all n t c d (stretch n (stmt (if_then t c d) b) ∷ rest) after h, behind))
             (if_comes i s t c d n (n + point_count c) after way refl);
       }
   stmt_once n (while_do t c) b rest h here behind k =

@@ -1,8 +1,8 @@
 -- The path law: of all paths from a point, the literals of exactly one are true, and it tells how the run from there goes on.
 -- A side is run from its rest at the point, filled; its store is l for the left side and r for the right.
--- A path may take no step of the run: a statement parameter may stand for the empty block. Then fewer statements are left where it
--- stops than where it set out. So along paths the steps that a run still makes, and among as many steps the statements that are
--- left, get fewer: what is proved of a run path by path is proved by induction on these two numbers, the steps first.
+-- A path may take no step of the run, since a statement parameter may stand for the empty block. Then fewer statements are left
+-- where it stops than where it set out. So with each path either the steps that the run still makes get fewer, or they stay as many
+-- and the statements left get fewer: what is said of a run path by path is proved by induction on these two numbers, the steps first.
 use Rattle.std.specs.Prelude.{◌≡◌, ◌↔◌, ◌⊎◌, ℕ, zero, suc, ◌+◌, ◌-◌, ◌<◌, ◌≤◌, Bool, true, false, List, [], ◌∷◌, filter, Some}
 use Rattle.std.specs.List.{list_all}
 use Rattle.toy_imp.specs.declared.instance.Instance.{Instance}
