@@ -7,17 +7,18 @@ use pec_top::serve_plain;
 use std::env;
 use std::process::ExitCode;
 
-const USAGE: &str = "usage: pec prove";
+const USAGE: &str = "usage: pec prove | print";
 
 const HELP: &str = "\
 pec proves rewrite rules once for everything that their parameters stand for.
 
-usage: pec prove
+usage: pec prove | print
        pec --help | --version
 
-prove   reads one rule from standard input and writes a report on standard output
+prove   reads rules from standard input, proves or refuses each, and writes a report
+print   writes the rules and programs of standard input in canonical form
 
-status  0 proved, 1 refused, 2 no such command, 3 input refused,
+status  0 done, 1 done and a rule was refused, 2 no such command, 3 input refused,
         4 a read failed, 5 a write failed, 6 want of memory";
 
 fn main(rt: HostRuntime) -> ExitCode {

@@ -1,4 +1,11 @@
-pub mod Judging
+pub mod Command
+pub mod Content
+pub mod Input
 pub mod Output
+pub mod PrintedItems
+pub mod RefusalLine
+pub mod Report
 pub mod Serving
-pub mod Words
+pub mod SkipForm
+pub mod Titles
+pub mod Verdict

@@ -4,10 +4,16 @@ use Rattle.std.specs.Prelude.{◌≡◌, ◌≢◌, ◌+◌, ◌↔◌, ◌⊎�
 use Rattle.std.specs.Io.KnownBytes.{Appends}
 use Rattle.pec_io.specs.Reading.{taken_count}
 use Rattle.pec_io.specs.Writing.{AppendsPart}
+use Rattle.pec_text.specs.SectionsOf.{sections_of}
+use Rattle.pec_top.specs.declared.command.Command.{Command}
+use Rattle.pec_top.specs.declared.command.Command.TheVariants.{Prove}
+use Rattle.pec_top.specs.declared.input.Input.{Input}
+use Rattle.pec_top.specs.declared.input.Input.TheVariants as input
 use Rattle.pec_top.specs.declared.output.Output.{Output}
-use Rattle.pec_top.specs.declared.output.Output.TheVariants.{Larger}
-use Rattle.pec_top.specs.Judging.{Judges}
-use Rattle.pec_top.specs.Output.{output_text, output_status}
+use Rattle.pec_top.specs.Command.{Name}
+use Rattle.pec_top.specs.Input.{InputIs}
+use Rattle.pec_top.specs.Output.{status_of, output_of}
+use Rattle.pec_top.specs.Verdict.{ProvedAreValid}
 
 -- the greatest number of bytes of an input
 abbrev pub input_limit : ℕ
@@ -16,17 +22,29 @@ input_limit = 1048576
 -- the output was written whole, or in part by a write that failed
 abbrev pub Delivers : Option (List ℕ) → Option (List ℕ) → Output → ℕ → Type 0
 Delivers old new output status =
-    ((status ≡ output_status output) × Appends old new (output_text output))
-    ⊎ ((status ≡ 5) × AppendsPart old new (output_text output))
+    ((status ≡ status_of output.ending) × Appends old new output.text)
+    ⊎ ((status ≡ 5) × AppendsPart old new output.text)
 
--- the source was read to its end, and the output judges all the bytes that it had left, where it tells them
-abbrev pub JudgesAll : Option (List ℕ) → Option (List ℕ) → Output → Type 0
-JudgesAll (Some bytes) left' output = (left' ≡ Some []) × Judges bytes output
-JudgesAll None left' output = Unit {0}
+-- what the command proves of the rules of its input
+abbrev pub Proves : Command → List ℕ → Input → Type 0
+Proves Prove bytes (input.Accepted items) = ProvedAreValid (sections_of bytes).whole items
+Proves _ bytes _ = Unit {0}
 
--- from the bytes that the source has left, before and after, to those that the sink holds
-pub record Serves (left left' written written' : Option (List ℕ)) (status : ℕ) : Type 0 where
-  pub output : Output
-  pub delivered : Delivers written written' output status
-  pub larger : IfSome (taken_count left left') (λ count. (count ≡ input_limit + 1) ↔ (output ≡ Larger))
-  pub judged : output ≢ Larger → JudgesAll left left' output
+-- these bytes are this input, and what is said to be proved of it is so
+pub record IsInput (command : Command) (bytes : List ℕ) (found : Input) : Type 0 where
+  pub is : InputIs command (sections_of bytes) found
+  pub proves : Proves command bytes found
+
+-- the source was read to its end, and all the bytes that it had left are this input, where it tells them
+abbrev pub ReadsAll : Command → Option (List ℕ) → Option (List ℕ) → Input → Type 0
+ReadsAll command (Some bytes) left' found = (left' ≡ Some []) × IsInput command bytes found
+ReadsAll command None left' found = Unit {0}
+
+-- from the words, and the bytes that the source has left before and after, to those that the sink holds
+pub record Serves (words : List (List ℕ)) (left left' written written' : Option (List ℕ)) (status : ℕ) : Type 0 where
+  pub command : Command
+  pub named : Name words command
+  pub found : Input
+  pub larger : IfSome (taken_count left left') (λ count. (count ≡ input_limit + 1) ↔ (found ≡ input.Larger))
+  pub read : found ≢ input.Larger → ReadsAll command left left' found
+  pub delivered : Delivers written written' (output_of command found) status

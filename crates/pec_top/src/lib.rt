@@ -1,13 +1,26 @@
 //! The program as a function of words and bytes: which words are a command, what is read, what is
-//! written and with which status the program ends.
+//! written and with which status the program ends. `specs/Serving.antt` says it of a whole run.
 #![tactic(auto)]
 
-mod answering;
+mod command;
+mod content;
+mod input;
+mod no_memory;
 mod output;
+mod printed_items;
+mod refusal_line;
+mod report;
 mod serving;
+mod skip_form;
+mod titles;
+mod verdict;
 
-pub use output::Output;
+pub use command::Command;
+pub use content::{Content, Item, Program, Reason};
+pub use input::{Input, Refusal, one_input};
+pub use output::{Ending, Output};
 pub use serving::serve_plain;
+pub use verdict::Verdict;
 
 #[cfg(test)]
 mod tests;

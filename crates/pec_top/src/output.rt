@@ -1,64 +1,106 @@
-//! What a run has to write, and the status that goes with it.
+//! What a command has to write for an input, and how the run ends that writes it whole.
+//! `specs/Output.antt` says both.
 
-ghost use Rattle.std.specs.Prelude.{◌≡◌, ◌++◌, IfOk, codes};
-ghost use Rattle.pec_top.specs.Output.{output_text, output_status};
+ghost use Rattle.std.specs.Prelude.{◌≡◌, ◌++◌, All, IfOk, OnOk};
+ghost use Rattle.pec_top.specs.Output.{status_of, items_output, output_of};
+ghost use Rattle.pec_top.specs.PrintedItems.{IsSpellable, IsPrintable};
 
+use crate::command::Command;
+use crate::content::Item;
+use crate::input::Input;
+use crate::no_memory::NoMemory;
+use crate::printed_items::items_text;
+use crate::refusal_line::refusal_line;
+use crate::report::{report_ending, report_text};
+use crate::verdict::verdicts;
 use sqlite_items::Items;
-use std::alloc::{AllocError, Global};
+use std::alloc::Global;
+
+/// How a run ends that writes its whole output.
+#[derive(Clone, Copy, Debug, PartialEq, Eq)]
+pub enum Ending {
+    /// All is done.
+    Done,
+    /// All is done, and a rule is refused.
+    SomeRefused,
+    /// The input is refused.
+    InputRefused,
+}
 
 /// What there is to write.
 #[derive(Drop)]
-pub enum Output {
-    /// The report on one rule, by its title, that is proved.
-    Proved(Items<u8>),
-    /// The report on one rule, by its title, that is refused.
-    Refused(Items<u8>),
-    /// The line for an input of more bytes than the limit.
-    Larger,
-    /// The line for an input that is not in a form that is built.
-    NotBuilt,
+pub struct Output {
+    pub text: Items<u8>,
+    pub ending: Ending,
 }
 
-impl Output {
-    /// The bytes to write.
-    pub fn text(&self, alloc: Global) -> Result<Vec<u8>, AllocError>
-        ensures { IfOk result (λ text. text.items ≡ output_text self.now) }
+impl Ending {
+    /// The status of the run.
+    pub fn status(self) -> u8
+        ensures { result ≡ status_of self }
     {
         match self {
-            Output::Proved(title) => report(
-                alloc,
-                title.as_slice(),
-                b" proved\nrules 1\nproved 1\nrefused 0\nend\n",
-            ),
-            Output::Refused(title) => report(
-                alloc,
-                title.as_slice(),
-                b" refused\nrules 1\nproved 0\nrefused 1\nend\n",
-            ),
-            Output::Larger => Vec::from_slice(alloc, b"input: larger than 1048576 bytes\n"),
-            Output::NotBuilt => Vec::from_slice(alloc, b"input: not built\n"),
-        }
-    }
-
-    /// The status of a run that writes them whole: 0 where the rule is proved, 1 where it is
-    /// refused, 3 where the input is.
-    pub fn status(&self) -> u8
-        ensures { result ≡ output_status self.now }
-    {
-        match self {
-            Output::Proved(_) => 0,
-            Output::Refused(_) => 1,
-            Output::Larger | Output::NotBuilt => 3,
+            Ending::Done => 0,
+            Ending::SomeRefused => 1,
+            Ending::InputRefused => 3,
         }
     }
 }
 
-/// The report on the rule of this title, with what follows the title.
-fn report(alloc: Global, title: &[u8], verdict: &[u8]) -> Result<Vec<u8>, AllocError>
-    ensures { IfOk result (λ text. text.items ≡ codes "report prove\nrule " ++ title.now ++ verdict.now) }
+/// What the command has to write for the input.
+pub fn output_of(alloc: Global, command: Command, input: &Input) -> Result<Output, NoMemory>
+    requires { IsPrintable input.now }
+    ensures { IfOk result (λ output. output ≡ output_of command input.now) }
 {
-    let mut text = Vec::from_slice(alloc, b"report prove\nrule ")?;
-    text.extend_from_slice(title)?;
-    text.extend_from_slice(verdict)?;
-    Ok(text)
+    match input {
+        Input::Accepted(items) => items_output(alloc, command, items.as_slice()),
+        Input::Refused(refusal) => {
+            let line = refusal_line(alloc, *refusal)?;
+            Ok(refused_output(line))
+        }
+        Input::Larger => {
+            let line = Vec::from_slice(alloc, b"input: larger than 1048576 bytes\n")?;
+            Ok(refused_output(line))
+        }
+    }
+}
+
+ghost use Rattle.pec_top.specs.declared.output.Ending.TheVariants as ending;
+
+/// The output of one line for an input that is refused.
+fn refused_output(line: Vec<u8>) -> Output
+    ensures { result ≡ record { text = line.items; ending = ending.InputRefused } }
+{
+    Output {
+        text: Items::from_vec(line),
+        ending: Ending::InputRefused,
+    }
+}
+
+/// What the command has to write for these items.
+fn items_output(alloc: Global, command: Command, items: &[Item]) -> Result<Output, NoMemory>
+    requires { All IsSpellable items.now }
+    ensures { IfOk result (λ output. output ≡ items_output command items.now) }
+{
+    match command {
+        Command::Prove => {
+            let all = verdicts(alloc, items)?;
+            let text = Items::from_vec(report_text(alloc, all.as_slice())?);
+            let ending = report_ending(all.as_slice());
+            Ok(Output { text, ending })
+        }
+        Command::Print => {
+            let text = Items::from_vec(items_text(alloc, items)?);
+            let ending = Ending::Done;
+            Ok(Output { text, ending })
+        }
+    }
+}
+
+/// Puts these bytes behind the text.
+pub fn put(bytes: &[u8], out: &mut Vec<u8>) -> Result<(), NoMemory>
+    ensures { OnOk result (out.new.items ≡ out.old.items ++ bytes.now) }
+{
+    out.extend_from_slice(bytes)?;
+    Ok(())
 }

@@ -2,23 +2,28 @@
 //!
 //! | status | where |
 //! |---|---|
-//! | 2 | the words are in no form; nothing is read or written |
+//! | 2 | the words name no command; nothing is read or written |
 //! | 4 | a read failed; nothing is written |
 //! | 3 | the input is refused; one line is written |
 //! | 6 | want of memory; nothing is written |
-//! | 1 | the rule was refused |
-//! | 0 | the rule was proved |
+//! | 1 | done, and a rule was refused |
+//! | 0 | done otherwise |
 //!
 //! Status 5 comes in place of 3, 1 and 0 where a write failed.
 
-ghost use Rattle.std.specs.Prelude.{◌≡◌, ◌≢◌, ◌≤◌, ◌⊎◌, ◌↔◌, IfSome, IsTrue, map, string_bytes};
+ghost use Rattle.std.specs.Prelude.{◌≡◌, ◌≢◌, ◌≤◌, ◌⊎◌, IfSome, map, string_bytes};
 ghost use Rattle.pec_io.specs.Faults.{Rose};
 ghost use Rattle.pec_io.specs.Reading.{taken_count};
-ghost use Rattle.pec_top.specs.Words.{IsForm};
+ghost use Rattle.pec_top.specs.Command.{Name};
+ghost use Rattle.pec_top.specs.Output.{output_of};
+ghost use Rattle.pec_top.specs.PrintedItems.{IsPrintable};
 ghost use Rattle.pec_top.specs.Serving.{input_limit, Delivers, Serves};
+ghost use Rattle.pec_top.specs.declared.command.Command.{Command};
 
-use super::Output;
-use super::answering::answer;
+use crate::command::{Command, named_by};
+use crate::input::{Input, read_input};
+use crate::no_memory::NoMemory;
+use crate::output::output_of;
 use pec_io::{Failed, ReadRefusal, Sink, Source, read_all, write_all};
 use std::alloc::Global;
 
@@ -33,8 +38,8 @@ pub fn serve_plain<S: Source, K: Sink>(
     input: &mut S,
     out: &mut K,
 ) -> u8
-    ensures usage { result ≡ 2 → ¬ (IsForm (map string_bytes words.now)) }
-    ensures command { result ≢ 2 → IsForm (map string_bytes words.now) }
+    ensures usage { result ≡ 2 → (command : Command) → ¬ (Name (map string_bytes words.now) command) }
+    ensures command { result ≢ 2 → (command : Command) × Name (map string_bytes words.now) command }
     ensures unread { result ≡ 2 → input.new ≡ input.old }
     ensures unwritten { (result ≡ 2) ⊎ (result ≡ 4) ⊎ (result ≡ 6) → out.new ≡ out.old }
 
@@ -43,44 +48,35 @@ pub fn serve_plain<S: Source, K: Sink>(
     ensures write_fault { result ≡ 5 → Rose (K.faults out.old) (K.faults out.new) }
 
     ensures served { result ≢ 2 → result ≢ 4 → result ≢ 6 →
-        Serves (S.left input.old) (S.left input.new) (K.written out.old) (K.written out.new) result }
+        Serves (map string_bytes words.now) (S.left input.old) (S.left input.new) (K.written out.old) (K.written out.new) result }
 {
-    if !is_form(words) {
+    let Some(command) = named_by(words) else {
         return 2;
-    }
+    };
     match read_all(alloc, input, INPUT_LIMIT) {
-        Ok(bytes) => match answer(alloc, bytes.as_slice()) {
-            Ok(output) => deliver(alloc, out, output),
-            Err(_error) => 6,
+        Ok(bytes) => match read_input(alloc, command, bytes.as_slice()) {
+            Ok(found) => deliver(alloc, command, &found, out),
+            Err(NoMemory) => 6,
         },
-        Err(ReadRefusal::Large) => deliver(alloc, out, Output::Larger),
+        Err(ReadRefusal::Large) => deliver(alloc, command, &Input::Larger, out),
         Err(ReadRefusal::Fault) => 4,
         Err(ReadRefusal::NoMemory) => 6,
     }
 }
 
-/// Whether the words are `prove` alone.
-fn is_form(words: &[String]) -> bool
-    ensures { IsTrue result ↔ IsForm (map string_bytes words.now) }
-{
-    match words.split_first() {
-        Some((first, [])) => first.as_str() == "prove",
-        _ => false,
-    }
-}
-
-/// Writes the output and answers its status, 5 where a write failed, and 6 where there was not
-/// enough memory to make its bytes.
-fn deliver<K: Sink>(alloc: Global, out: &mut K, output: Output) -> u8
-    ensures delivered { result ≢ 6 → Delivers (K.written out.old) (K.written out.new) output result }
+/// Writes the output of a command for an input and answers its status, 5 where a write failed, and 6
+/// where there was not enough memory to make the output.
+fn deliver<K: Sink>(alloc: Global, command: Command, found: &Input, out: &mut K) -> u8
+    requires { IsPrintable found.now }
+    ensures delivered { result ≢ 6 → Delivers (K.written out.old) (K.written out.new) (output_of command found.now) result }
     ensures unwritten { result ≡ 6 → out.new ≡ out.old }
     ensures fault { result ≡ 5 → Rose (K.faults out.old) (K.faults out.new) }
 {
-    let Ok(text) = output.text(alloc) else {
+    let Ok(output) = output_of(alloc, command, found) else {
         return 6;
     };
-    match write_all(out, text.as_slice()) {
-        Ok(()) => output.status(),
+    match write_all(out, output.text.as_slice()) {
+        Ok(()) => output.ending.status(),
         Err(Failed) => 5,
     }
 }

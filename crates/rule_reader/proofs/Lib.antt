@@ -8,11 +8,6 @@ pub mod FrontTrees
 pub mod ItemTrees
 pub mod ItemTurns
 pub mod Unambiguous
-pub mod OneSections
 pub mod RuleAnswers
 pub mod RuleComplete
 pub mod RuleSound
-pub mod SkipReadings
-pub mod SkipRules
-pub mod SkipSides
-pub mod SkipTurns

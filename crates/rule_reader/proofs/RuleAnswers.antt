@@ -20,7 +20,7 @@ use Rattle.rule_reader.proofs.RuleSound.{tree_written, HasRule, rule_has}
 use Rattle.rule_reader.proofs.RuleComplete.{rule_is_read}
 
 -- ---- numbers in cuts
-abbrev IsBeyond : ℕ × ℕ → Type 0
+abbrev pub IsBeyond : ℕ × ℕ → Type 0
 IsBeyond a = (2 ^ 32 ≤ a.0) ⊎ (2 ^ 32 ≤ a.1)
 
 at_least : (v : ℕ) → nat_le (2 ^ 32) v ≡ true → 2 ^ 32 ≤ v
@@ -48,10 +48,10 @@ told_beyond : (a : ℕ × ℕ) → IsBeyond a → is_beyond a ≡ true
 told_beyond a (inl h) = ap (λ b. b || nat_le (2 ^ 32) a.1) (reaches a.0 h)
 told_beyond a (inr h) = second (nat_le (2 ^ 32) a.0) (nat_le (2 ^ 32) a.1) (reaches a.1 h)
 
-some_beyond : (pairs : List (ℕ × ℕ)) → list_any is_beyond pairs ≡ true → Any IsBeyond pairs
+pub some_beyond : (pairs : List (ℕ × ℕ)) → list_any is_beyond pairs ≡ true → Any IsBeyond pairs
 some_beyond pairs h = let found = Any-from_list_any is_beyond pairs h in (found.0, found.1, found.2, found.3, beyond found.1 found.4)
 
-told_some : (pairs : List (ℕ × ℕ)) → Any IsBeyond pairs → list_any is_beyond pairs ≡ true
+pub told_some : (pairs : List (ℕ × ℕ)) → Any IsBeyond pairs → list_any is_beyond pairs ≡ true
 told_some pairs found = list_any-from_Any is_beyond pairs (found.0, found.1, found.2, found.3, told_beyond found.1 found.4)
 
 -- ---- trees and what is read

@@ -2,9 +2,5 @@ pub mod ConditionReading
 pub mod CutReading
 pub mod DeclarationReading
 pub mod Front
-pub mod Gives
 pub mod RuleAnswering
 pub mod RuleReading
-pub mod SkipReading
-pub mod SkipRule
-pub mod SkipText
