@@ -27,9 +27,10 @@ ratio() {
     'BEGIN { r = a / b; printf "%s: %.4f s against %.4f s, ratio %.2f (below %s)\n", name, a, b, r, most; exit r >= most }'
 }
 
-# The proved bench program, which `rt run` in crates/pec_bench builds.
-bench=$(cd "$(dirname "${BASH_SOURCE[0]}")/.." && pwd)/crates/pec_bench/out/pec_bench
+# The proved program that is timed, which `rt run` in its crate builds: `pec_bench`, unless the script names another one.
+timed=${timed:-pec_bench}
+bench=$(cd "$(dirname "${BASH_SOURCE[0]}")/.." && pwd)/crates/$timed/out/$timed
 if [ ! -x "$bench" ]; then
-  echo "no proved bench program: (cd crates/pec_bench && rt run -- io < stdin) makes it" >&2
+  echo "no proved program $timed: rt run in crates/$timed makes it" >&2
   exit 1
 fi
