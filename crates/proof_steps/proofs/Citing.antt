@@ -5,13 +5,13 @@ use Rattle.std.proofs.lemmas.Bool.{and_parts}
 use Rattle.toy_imp.specs.declared.instance.Instance.{Instance}
 use Rattle.toy_imp.specs.Store.{Store}
 use Rattle.term_meaning.specs.Table.{Entry}
+use Rattle.law_clauses.specs.Signed.{Signed, signed_of}
+use Rattle.law_clauses.proofs.Same.{signed_is}
+use Rattle.law_clauses.proofs.Each.{Each, IfThere, each_at}
+use Rattle.law_clauses.proofs.Meant.{IsTrueHere, Fails, true_negation}
 use Rattle.proof_steps.specs.declared.refutation.Step.{Step}
-use Rattle.proof_steps.specs.Signed.{Signed, signed_of}
 use Rattle.proof_steps.specs.Cited.{stated, fact, is_that, cited}
 use Rattle.proof_steps.specs.Steps.{without, all_negated}
-use Rattle.proof_steps.proofs.Same.{signed_is}
-use Rattle.proof_steps.proofs.Each.{Each, IfThere, each_at}
-use Rattle.proof_steps.proofs.Meant.{IsTrueHere, Fails, true_negation}
 
 module _ (i : Instance) (T : List Entry) (l r : Store) where
   abbrev pub StepIsTrue : Step → Type 0

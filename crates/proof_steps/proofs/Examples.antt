@@ -9,15 +9,15 @@ use Rattle.rule_terms.specs.declared.obligation.Atom.TheVariants.{SameName, Same
 use Rattle.rule_terms.specs.declared.obligation.Literal.{Literal}
 use Rattle.rule_terms.specs.declared.obligation.Conjunct.{Conjunct}
 use Rattle.rule_terms.specs.declared.obligation.Obligation.{Obligation}
+use Rattle.law_clauses.specs.Signed.{atom_same, signed_same, all_same}
+use Rattle.law_clauses.specs.WriteLaws.{unequal, read_back, law_1}
+use Rattle.law_clauses.specs.Laws.{is_clause}
 use Rattle.proof_steps.specs.declared.refutation.By.TheVariants.{Given, Known, Refl, Alike, Carry, Law, Sum}
 use Rattle.proof_steps.specs.declared.refutation.By.{By}
 use Rattle.proof_steps.specs.declared.refutation.Step.{Step}
 use Rattle.proof_steps.specs.declared.refutation.SumRow.TheVariants.{Of}
 use Rattle.proof_steps.specs.declared.refutation.Refutation.TheOpen.{Refutation-F}
 use Rattle.proof_steps.specs.declared.refutation.Refutation.TheVariants.{Leaf}
-use Rattle.proof_steps.specs.Signed.{atom_same, signed_same, all_same}
-use Rattle.proof_steps.specs.WriteLaws.{unequal, read_back, law_1}
-use Rattle.proof_steps.specs.Laws.{is_clause}
 use Rattle.proof_steps.specs.Cited.{cited}
 use Rattle.proof_steps.specs.Replaced.{store_top, left_by_pair, left_by_pairs, alike, carried}
 use Rattle.proof_steps.specs.Sums.{bound_of, row_bound, adds_up}

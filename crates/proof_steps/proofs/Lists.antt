@@ -1,17 +1,15 @@
--- Lists that are as long as others, and a constant by its shape.
-use Rattle.std.specs.Prelude.{◌≡◌, ◌≢◌, ℕ, ℤ, suc, Bool, true, false, ◌&&◌, ◌||◌, List, [], ◌∷◌, ◌++◌, length, refl}
+-- Lists of literals that are as long as others, and what a refutation starts from, in parts.
+use Rattle.std.specs.Prelude.{◌≡◌, ◌≢◌, ℕ, suc, Bool, true, false, ◌&&◌, ◌||◌, List, [], ◌∷◌, ◌++◌, length, refl}
 use Rattle.std.proofs.Common.{ap, ◌∙◌}
 use Rattle.std.specs.List.{list_any}
 use Rattle.rule_terms.specs.declared.obligation.Obligation.{Obligation}
-use Rattle.rule_terms.specs.Term.{ValueTerm, num, get, ev, add, sub, mul}
-use Rattle.rule_terms.specs.Order.{value_cmp, value_same}
 use Rattle.rule_terms.specs.declared.obligation.Literal.{Literal}
+use Rattle.law_clauses.specs.Signed.{Signed, all_signed, signed_of, signed_same, negated}
+use Rattle.law_clauses.proofs.Same.{or_more}
 use Rattle.proof_steps.specs.declared.refutation.Step.{Step}
-use Rattle.proof_steps.specs.Signed.{Signed, all_signed, signed_of, signed_same, negated}
 use Rattle.proof_steps.specs.Cited.{fact, is_that, cited}
 use Rattle.proof_steps.specs.Steps.{is_given, all_negated}
 use Rattle.proof_steps.specs.Refutes.{denied, given_first}
-use Rattle.proof_steps.specs.Shapes.{is_num}
 
 and_not : (p q : Bool) → q ≡ false → (p && q) ≡ false
 and_not true q f = f
@@ -34,14 +32,6 @@ denied_count earlier (k ∷ ks) (x ∷ xs) apart =
     and_not (is_that (fact earlier k) (negated (signed_of x))) (cited earlier ks (all_negated (all_signed xs))) (denied_count earlier ks xs (λ e. apart (ap suc e)))
 
 -- ---- what a refutation starts from
-pub or_false : (b : Bool) → (b || false) ≡ b
-or_false true = refl
-or_false false = refl
-
-pub or_more : (a b c : Bool) → (a || (b || c)) ≡ ((a || b) || c)
-or_more true b c = refl
-or_more false b c = refl
-
 pub any_append : (test : Signed → Bool) (xs ys : List Signed) → list_any test (xs ++ ys) ≡ (list_any test xs || list_any test ys)
 any_append test [] ys = refl
 any_append test (x ∷ xs) ys = ap (λ b. test x || b) (any_append test xs ys) ∙ or_more (test x) (list_any test xs) (list_any test ys)
@@ -51,13 +41,3 @@ pub given_parts : (ob : Obligation) (x : Signed) → is_given (given_first ob) x
 given_parts ob x =
     any_append (signed_same x) (all_signed ob.path) (all_signed ob.goal.when ++ denied ob.goal.gives)
     ∙ ap (λ b. list_any (signed_same x) (all_signed ob.path) || b) (any_append (signed_same x) (all_signed ob.goal.when) (denied ob.goal.gives))
-
--- a term is a constant exactly where it is the same as that
-pub num_same : (w : ValueTerm) (z : ℤ) → value_same w (num z) ≡ is_num w z
-unfolding value_cmp is_num
-num_same (num y) z = refl
-num_same (get x is s) z = refl
-num_same (ev k s) z = refl
-num_same (add a b) z = refl
-num_same (sub a b) z = refl
-num_same (mul a b) z = refl

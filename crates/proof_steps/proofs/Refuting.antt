@@ -3,12 +3,12 @@ use Rattle.std.specs.Prelude.{◌≡◌, ◌≤◌, ℕ, ◌+◌, Bool, ◌&&◌
 use Rattle.std.proofs.Common.{sym, ◌∙◌, ap, arith}
 use Rattle.rule_terms.specs.declared.obligation.Literal.{Literal}
 use Rattle.rule_terms.specs.declared.obligation.Obligation.{Obligation}
+use Rattle.law_clauses.specs.Signed.{Signed, signed_of, negated}
 use Rattle.proof_steps.specs.declared.refutation.Step.{Step}
 use Rattle.proof_steps.specs.declared.refutation.Refutation.{Refutation, Split', fold-roll-Refutation}
 use Rattle.proof_steps.specs.declared.refutation.Refutation.TheOpen.{Refutation-F}
 use Rattle.proof_steps.specs.declared.refutation.Refutation.TheVariants.{Split, Leaf, rolls-Split, rolls-Leaf}
 use Rattle.proof_steps.specs.declared.refutation.Refutation.TheBlock.{more_of-Refutation, end_of-Refutation}
-use Rattle.proof_steps.specs.Signed.{Signed, signed_of, negated}
 use Rattle.proof_steps.specs.Steps.{is_shallow}
 use Rattle.proof_steps.specs.Refutes.{given_at, leaf_closes, refutes_layer, refutes_under}
 use Rattle.proof_steps.specs.Turns.{rank, rank_layer}

@@ -14,13 +14,13 @@ use Rattle.term_meaning.specs.Table.{Entry, after}
 use Rattle.term_meaning.specs.Indices.{count}
 use Rattle.term_meaning.specs.Meaning.{store_of, value_of, values_of, atom_truth}
 use Rattle.term_meaning.proofs.Truths.{names_equal, stores_equal, stores_from, values_equal, values_from}
+use Rattle.law_clauses.specs.Signed.{Signed, plus, minus}
+use Rattle.law_clauses.proofs.Same.{number_is, integer_is, store_is, value_is}
+use Rattle.law_clauses.proofs.Each.{Each, IfThere}
+use Rattle.law_clauses.proofs.Meant.{IsTrueHere}
 use Rattle.proof_steps.specs.declared.refutation.Step.{Step}
-use Rattle.proof_steps.specs.Signed.{Signed, plus, minus}
 use Rattle.proof_steps.specs.Cited.{fact}
 use Rattle.proof_steps.specs.Replaced.{Argument, of_name, of_store, of_value, index_arguments, store_arguments, value_arguments, store_top, value_top, identical, equality, says, left_by_equality, left_by_pair, left_by_pairs, all_used, replaced, alike, carried_atom, carried}
-use Rattle.proof_steps.proofs.Same.{number_is, integer_is, store_is, value_is}
-use Rattle.proof_steps.proofs.Each.{Each, IfThere}
-use Rattle.proof_steps.proofs.Meant.{IsTrueHere}
 use Rattle.proof_steps.proofs.Citing.{StepIsTrue, fact_true, that_true}
 
 used_there : (o : Option (List ℕ)) → all_used o ≡ true → is_some o ≡ true

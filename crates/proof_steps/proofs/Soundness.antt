@@ -12,15 +12,15 @@ use Rattle.term_meaning.specs.Table.{Entry}
 use Rattle.term_meaning.specs.Meaning.{literal_truth, gives_truth, CoversGives, fits_kinds, Reached, ObligationHolds}
 use Rattle.term_meaning.proofs.Assuming.{extend_literals}
 use Rattle.term_meaning.proofs.InUse.{by_truth}
+use Rattle.law_clauses.specs.Signed.{Signed, signed_of, all_signed, negated}
+use Rattle.law_clauses.proofs.Same.{or_cases, not_false, signed_is}
+use Rattle.law_clauses.proofs.Each.{Each, each_joined, each_of_all, any_found}
+use Rattle.law_clauses.proofs.Meant.{truth, IsTrueHere, Covers, signed_truth, signed_covered, all_covered, all_true, negation_true, true_negation, negation_covered}
 use Rattle.proof_steps.specs.declared.refutation.Refutation.{Refutation}
 use Rattle.proof_steps.specs.declared.refutation.Refutation.TheVariants.{Split, Leaf}
 use Rattle.proof_steps.specs.declared.refutation.Step.{Step}
-use Rattle.proof_steps.specs.Signed.{Signed, signed_of, all_signed, negated}
 use Rattle.proof_steps.specs.Steps.{is_shallow, step_holds}
 use Rattle.proof_steps.specs.Refutes.{denied, given_first, given_at, is_absurd, denies, closes, leaf_closes, refutes_under, refutes}
-use Rattle.proof_steps.proofs.Same.{or_cases, not_false, signed_is}
-use Rattle.proof_steps.proofs.Each.{Each, each_joined, each_of_all, any_found}
-use Rattle.proof_steps.proofs.Meant.{truth, IsTrueHere, Covers, signed_truth, signed_covered, all_covered, all_true, negation_true, true_negation, negation_covered}
 use Rattle.proof_steps.proofs.Citing.{StepIsTrue}
 use Rattle.proof_steps.proofs.Summing.{absurd_fails}
 use Rattle.proof_steps.proofs.Standing.{Standing, grown, assumed, step_on}

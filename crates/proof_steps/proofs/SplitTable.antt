@@ -7,17 +7,17 @@ use Rattle.rule_terms.specs.declared.obligation.Atom.{Atom}
 use Rattle.rule_terms.specs.declared.obligation.Atom.TheVariants.{SameName, SameStore, AtMost}
 use Rattle.rule_terms.specs.declared.obligation.Literal.{Literal}
 use Rattle.rule_terms.specs.declared.obligation.Obligation.{Obligation}
+use Rattle.law_clauses.specs.Signed.{atom_same, signed_same}
+use Rattle.law_clauses.proofs.TableTerms.{variable, no_goal}
 use Rattle.proof_steps.specs.declared.refutation.By.TheVariants.{Given, Known}
 use Rattle.proof_steps.specs.declared.refutation.Step.{Step}
 use Rattle.proof_steps.specs.declared.refutation.Refutation.TheOpen.{Refutation-F}
 use Rattle.proof_steps.specs.declared.refutation.Refutation.TheVariants.{Split, Leaf}
-use Rattle.proof_steps.specs.Signed.{atom_same, signed_same}
 use Rattle.proof_steps.specs.Cited.{cited}
 use Rattle.proof_steps.specs.Steps.{by_known, step_holds}
 use Rattle.proof_steps.specs.Refutes.{is_absurd, leaf_closes, refutes_layer, refutes}
 use Rattle.proof_steps.proofs.Refuting.{refutes_split, refutes_leaf}
 use Rattle.proof_steps.proofs.Examples.{yes, no, fact, step, refutes_by}
-use Rattle.proof_steps.proofs.TableTerms.{variable, no_goal}
 
 abbrev names_equal : Atom
 names_equal = SameName 0 1

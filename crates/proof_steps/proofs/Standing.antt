@@ -14,13 +14,13 @@ use Rattle.term_meaning.specs.Meaning.{conjunct_truth, CoversLiterals, CoversCon
 use Rattle.term_meaning.proofs.Growth.{atom_kept, covers_atom_kept, conjuncts_kept, covers_conjuncts_kept}
 use Rattle.term_meaning.proofs.Assuming.{extend_literals}
 use Rattle.term_meaning.proofs.InUse.{by_truth}
+use Rattle.law_clauses.specs.Signed.{Signed, plus, minus, signed_of}
+use Rattle.law_clauses.proofs.Each.{Each, each_joined}
+use Rattle.law_clauses.proofs.Meant.{truth, IsTrueHere, Covers, signed_covered, all_covered}
 use Rattle.proof_steps.specs.declared.refutation.By.{By}
 use Rattle.proof_steps.specs.declared.refutation.By.TheVariants.{Law}
 use Rattle.proof_steps.specs.declared.refutation.Step.{Step}
-use Rattle.proof_steps.specs.Signed.{Signed, plus, minus, signed_of}
 use Rattle.proof_steps.specs.Steps.{is_shallow, reason_is_shallow, step_holds}
-use Rattle.proof_steps.proofs.Each.{Each, each_joined}
-use Rattle.proof_steps.proofs.Meant.{truth, IsTrueHere, Covers, signed_covered, all_covered}
 use Rattle.proof_steps.proofs.Citing.{StepIsTrue}
 use Rattle.proof_steps.proofs.Stepping.{ReasonCovered, reason_shows}
 

@@ -6,19 +6,19 @@ use Rattle.rule_terms.specs.declared.obligation.Atom.{Atom}
 use Rattle.rule_terms.specs.declared.obligation.Atom.TheVariants.{SameName, SameStore, SameValue, AtMost, Ends}
 use Rattle.rule_terms.specs.declared.obligation.Literal.{Literal}
 use Rattle.rule_terms.specs.declared.obligation.Obligation.{Obligation}
+use Rattle.law_clauses.specs.Signed.{all_signed, atom_same, signed_same}
+use Rattle.law_clauses.specs.WriteLaws.{law_7, law_8}
+use Rattle.law_clauses.specs.Laws.{is_clause}
+use Rattle.law_clauses.proofs.TableTerms.{one_value, five, variable, set, no_goal, plain}
 use Rattle.proof_steps.specs.declared.refutation.By.TheVariants.{Given, Known, Refl, Flip, Chain, Alike, Carry, Law, Meet, Sum}
 use Rattle.proof_steps.specs.declared.refutation.Step.{Step}
 use Rattle.proof_steps.specs.declared.refutation.SumRow.TheVariants.{Of, Back, Num, Off, OffBack}
-use Rattle.proof_steps.specs.Signed.{all_signed, atom_same, signed_same}
-use Rattle.proof_steps.specs.WriteLaws.{law_7, law_8}
-use Rattle.proof_steps.specs.Laws.{is_clause}
 use Rattle.proof_steps.specs.Cited.{cited}
 use Rattle.proof_steps.specs.Replaced.{store_top, value_top, left_by_pair, left_by_pairs, alike, carried}
 use Rattle.proof_steps.specs.Offsets.{offset}
 use Rattle.proof_steps.specs.Sums.{bound_of, bound_back, row_bound, adds_up}
 use Rattle.proof_steps.specs.Steps.{by_known, by_itself, flipped, chained, by_law, all_negated, met, summed, step_holds}
 use Rattle.proof_steps.proofs.Examples.{yes, no, step}
-use Rattle.proof_steps.proofs.TableTerms.{one_value, five, variable, set, no_goal, plain}
 
 -- steps before, of which the literals alone matter
 abbrev said : List Literal → List Step

@@ -18,18 +18,18 @@ use Rattle.rule_terms.specs.declared.obligation.Obligation.{Obligation}
 use Rattle.term_meaning.specs.Table.{Entry, Faithful}
 use Rattle.term_meaning.specs.Meaning.{store_of, value_of, atom_truth, literal_truth, gives_truth, conjunct_truth, fits_kinds}
 use Rattle.term_meaning.proofs.Truths.{names_equal, names_from, stores_equal, stores_from, values_equal, values_from}
+use Rattle.law_clauses.specs.Signed.{Signed, plus, minus, all_signed, signed_same}
+use Rattle.law_clauses.specs.Laws.{is_clause}
+use Rattle.law_clauses.proofs.Same.{same_truth, number_is, store_is, value_is, signed_is}
+use Rattle.law_clauses.proofs.Each.{Each, IfThere, each_at, any_found}
+use Rattle.law_clauses.proofs.Meant.{IsTrueHere, Fails, Covers, signed_truth, true_all}
+use Rattle.law_clauses.proofs.Clauses.{clause_true}
 use Rattle.proof_steps.specs.declared.refutation.By.{By}
 use Rattle.proof_steps.specs.declared.refutation.By.TheVariants.{Given, Known, Refl, Flip, Chain, Alike, Carry, Law, Meet, Sum}
 use Rattle.proof_steps.specs.declared.refutation.Step.{Step}
-use Rattle.proof_steps.specs.Signed.{Signed, plus, minus, all_signed, signed_same}
-use Rattle.proof_steps.specs.Laws.{is_clause}
 use Rattle.proof_steps.specs.Cited.{fact, is_that, cited}
 use Rattle.proof_steps.specs.Steps.{is_given, given_by, by_known, by_itself, is_flipped, flipped, is_chain, chained, without, all_negated, by_law, follows}
-use Rattle.proof_steps.proofs.Same.{same_truth, number_is, store_is, value_is, signed_is}
-use Rattle.proof_steps.proofs.Each.{Each, IfThere, each_at, any_found}
-use Rattle.proof_steps.proofs.Meant.{IsTrueHere, Fails, Covers, signed_truth, true_all}
 use Rattle.proof_steps.proofs.Citing.{StepIsTrue, fact_true, cited_true, negations_fail, clause_fails}
-use Rattle.proof_steps.proofs.Clauses.{clause_true}
 use Rattle.proof_steps.proofs.Replacing.{alike_true, carried_true}
 use Rattle.proof_steps.proofs.Summing.{summed_true, met_true}
 

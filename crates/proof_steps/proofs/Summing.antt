@@ -12,18 +12,18 @@ use Rattle.rule_terms.specs.declared.obligation.Atom.TheVariants.{SameValue, AtM
 use Rattle.term_meaning.specs.Table.{Entry}
 use Rattle.term_meaning.specs.Meaning.{value_of, atom_truth}
 use Rattle.term_meaning.proofs.Truths.{int_least, values_equal, values_from, at_most, at_most_from}
+use Rattle.law_clauses.specs.Signed.{Signed, plus, minus}
+use Rattle.law_clauses.proofs.Same.{not_true, integer_is, value_is}
+use Rattle.law_clauses.proofs.Each.{Each, IfThere}
+use Rattle.law_clauses.proofs.Meant.{IsTrueHere}
 use Rattle.proof_steps.specs.declared.refutation.Step.{Step}
 use Rattle.proof_steps.specs.declared.refutation.SumRow.{SumRow}
 use Rattle.proof_steps.specs.declared.refutation.SumRow.TheVariants.{Of, Back, Num, Off, OffBack}
-use Rattle.proof_steps.specs.Signed.{Signed, plus, minus}
 use Rattle.proof_steps.specs.Offsets.{offset}
 use Rattle.proof_steps.specs.Cited.{fact}
 use Rattle.proof_steps.specs.Sums.{Bound, bound_of, bound_back, over, under, row_bound, goes_on, goes_on_by, adds_up}
 use Rattle.proof_steps.specs.Steps.{met, summed}
 use Rattle.proof_steps.specs.Refutes.{is_absurd}
-use Rattle.proof_steps.proofs.Same.{not_true, integer_is, value_is}
-use Rattle.proof_steps.proofs.Each.{Each, IfThere}
-use Rattle.proof_steps.proofs.Meant.{IsTrueHere}
 use Rattle.proof_steps.proofs.Citing.{StepIsTrue, fact_true}
 
 -- ---- over whole numbers

@@ -4,12 +4,12 @@ use Rattle.std.proofs.Common.{sym, ◌∙◌, ap, arith}
 use Rattle.std.proofs.lemmas.List.{take_more_set, take_more}
 use Rattle.std.specs.List.{list_any}
 use denote.Bor.{Bor}
+use Rattle.law_clauses.specs.Signed.{Signed, signed_of, negated, signed_same}
 use Rattle.proof_steps.specs.declared.assumed.Turn.{Turn}
 use Rattle.rule_terms.specs.declared.obligation.Literal.{Literal}
 use Rattle.rule_terms.specs.declared.obligation.Obligation.{Obligation}
 use Rattle.proof_steps.specs.declared.refutation.Refutation.{Refutation}
 use Rattle.proof_steps.specs.declared.refutation.Refutation.TheVariants.{Split}
-use Rattle.proof_steps.specs.Signed.{Signed, signed_of, negated, signed_same}
 use Rattle.proof_steps.specs.Steps.{is_shallow}
 use Rattle.proof_steps.specs.Refutes.{refutes_under}
 use Rattle.proof_steps.specs.Turns.{assumed_by, turn_assumes, is_turn, turned, owed_by, owed, all_owed, rank, rank_by, rank_turn, rank_owed, left, rank_left}

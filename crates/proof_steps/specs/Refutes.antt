@@ -7,10 +7,10 @@ use Rattle.rule_terms.specs.Order.{value_same}
 use Rattle.rule_terms.specs.declared.obligation.Atom.TheVariants.{AtMost}
 use Rattle.rule_terms.specs.declared.obligation.Literal.{Literal}
 use Rattle.rule_terms.specs.declared.obligation.Obligation.{Obligation}
+use Rattle.law_clauses.specs.Signed.{Signed, plus, signed_of, all_signed, negated, signed_same}
 use Rattle.proof_steps.specs.declared.refutation.Refutation.{Refutation, fold-Refutation}
 use Rattle.proof_steps.specs.declared.refutation.Refutation.TheOpen.{Refutation-F}
 use Rattle.proof_steps.specs.declared.refutation.Step.{Step}
-use Rattle.proof_steps.specs.Signed.{Signed, plus, signed_of, all_signed, negated, signed_same}
 use Rattle.proof_steps.specs.Steps.{is_shallow, step_holds}
 
 abbrev pub denied : Option Literal → List Signed

@@ -6,8 +6,8 @@ use Rattle.rule_terms.specs.Order.{store_same, value_same}
 use Rattle.rule_terms.specs.declared.obligation.Atom.{Atom}
 use Rattle.rule_terms.specs.declared.obligation.Atom.TheVariants.{SameName, SameStore, SameValue, AtMost, Ends, Holds}
 use Rattle.term_meaning.specs.Indices.{count}
+use Rattle.law_clauses.specs.Signed.{Signed, plus, minus}
 use Rattle.proof_steps.specs.declared.refutation.Step.{Step}
-use Rattle.proof_steps.specs.Signed.{Signed, plus, minus}
 use Rattle.proof_steps.specs.Cited.{fact, is_that}
 
 pub data Argument : Type 0 where

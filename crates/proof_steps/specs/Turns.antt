@@ -2,11 +2,11 @@
 -- A turn whose second branch is still to be walked is in the first branch, and assumes the literal; another assumes its negation.
 use Rattle.std.specs.Prelude.{ℕ, suc, ◌+◌, Bool, true, ◌&&◌, List, [], ◌∷◌, Option, Some, None}
 use Rattle.rule_terms.specs.declared.obligation.Obligation.{Obligation}
+use Rattle.law_clauses.specs.Signed.{Signed, signed_of, negated, signed_same}
 use Rattle.proof_steps.specs.declared.refutation.Refutation.{Refutation, fold-Refutation}
 use Rattle.proof_steps.specs.declared.refutation.Refutation.TheOpen.{Refutation-F}
 use Rattle.proof_steps.specs.declared.assumed.Turn.{Turn}
 use Rattle.proof_steps.specs.declared.assumed.Assumed.{Assumed, Nothing, Behind'}
-use Rattle.proof_steps.specs.Signed.{Signed, signed_of, negated, signed_same}
 use Rattle.proof_steps.specs.Refutes.{refutes_under}
 use denote.Bor.{Bor}
 

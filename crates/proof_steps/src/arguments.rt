@@ -4,13 +4,13 @@
 ghost use Rattle.std.specs.Prelude.{◌≡◌, ◌&&◌, [], ◌∷◌, Some};
 ghost use Rattle.term_meaning.specs.Indices.{count};
 ghost use Rattle.rule_terms.specs.Term.{put, get};
-ghost use Rattle.proof_steps.specs.Signed.{signed_of};
+ghost use Rattle.law_clauses.specs.Signed.{signed_of};
 ghost use Rattle.proof_steps.specs.Cited.{fact};
 ghost use Rattle.proof_steps.specs.Replaced.{of_store, of_value, store_arguments, value_arguments, store_top, value_top, replaced, alike, carried_atom, carried};
 
 use crate::refutation::Step;
 use crate::replaced::{is_all_used, place_pairs, store_pair, value_pair};
-use crate::shapes::count;
+use law_clauses::count;
 use rule_terms::{Atom, Literal, Place, StoreNode, StoreTerm, ValueNode, ValueTerm};
 
 // One store by another.

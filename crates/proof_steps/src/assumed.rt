@@ -3,12 +3,11 @@
 
 ghost use Rattle.std.specs.Prelude.{◌≡◌};
 ghost use Rattle.std.specs.List.{list_any};
-ghost use Rattle.proof_steps.specs.Signed.{signed_of, signed_same};
+ghost use Rattle.law_clauses.specs.Signed.{signed_of, signed_same};
 ghost use Rattle.proof_steps.specs.Turns.{is_turn, assumed_list};
 
-use crate::cited_lists::is_negation;
-use crate::cites::same_signed;
 use crate::refutation::Refutation;
+use law_clauses::{is_negation, same_signed};
 use rule_terms::Literal;
 
 /// A split of which one branch is being walked.

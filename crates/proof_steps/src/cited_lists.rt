@@ -3,13 +3,13 @@
 
 ghost use Rattle.std.specs.Prelude.{◌≡◌, Some, None, slice_get};
 ghost use Rattle.std.specs.List.{list_any};
-ghost use Rattle.proof_steps.specs.Signed.{signed_of, all_signed, negated, signed_same};
+ghost use Rattle.law_clauses.specs.Signed.{signed_of, all_signed, negated, signed_same};
 ghost use Rattle.proof_steps.specs.Cited.{fact, is_that, cited};
 ghost use Rattle.proof_steps.specs.Steps.{given_by, by_known, all_negated};
 
-use crate::cites::{same_atom, same_signed, says};
+use crate::cites::says;
 use crate::refutation::Step;
-use crate::shapes::is_num;
+use law_clauses::{is_negation, is_num, same_signed};
 use rule_terms::{Atom, Conjunct, Literal};
 
 // Whether the steps give the literals.
@@ -40,18 +40,6 @@ pub fn is_among(xs: &[Literal], x: &Literal) -> bool
     false
 }
 
-// Whether the first literal is the negation of the second.
-#[tactic(auto, unfolding(crate::specs::Signed::signed_same))]
-pub fn is_negation(x: &Literal, y: &Literal) -> bool
-    ensures { result ≡ signed_same (signed_of x.now) (negated (signed_of y.now)) }
-{
-    match (x.sign, y.sign) {
-        (true, false) => same_atom(&x.atom, &y.atom),
-        (false, true) => same_atom(&x.atom, &y.atom),
-        _ => false,
-    }
-}
-
 fn says_negation(earlier: &[Step], k: u32, x: &Literal) -> bool
     ensures { result ≡ is_that (fact earlier.now k) (negated (signed_of x.now)) }
 {
@@ -78,7 +66,7 @@ pub fn are_denied(earlier: &[Step], ks: &[u32], xs: &[Literal]) -> bool
 }
 
 // What a conjunct that gives nothing gives.
-#[tactic(auto, unfolding(crate::specs::Signed::signed_same, crate::specs::Signed::atom_same), using(crate::proofs::Lists::num_same))]
+#[tactic(auto, unfolding(law_clauses::specs::Signed::signed_same, law_clauses::specs::Signed::atom_same), using(law_clauses::proofs::Same::num_same))]
 fn is_false(x: &Literal) -> bool
     ensures { result ≡ signed_same (signed_of x.now) (given_by None) }
 {

@@ -1,40 +1,15 @@
 //! What steps before give, and what is cited of them.
-//! `specs/Cited.antt` and `specs/Signed.antt` say what is compared.
+//! `specs/Cited.antt` says what is compared.
 
 ghost use Rattle.std.specs.Prelude.{◌≡◌};
 ghost use Rattle.std.specs.Option.{option_map};
 ghost use Rattle.rule_terms.specs.declared.obligation.Atom.TheVariants.{SameName, SameStore, SameValue};
-ghost use Rattle.proof_steps.specs.Signed.{plus, signed_of, all_signed, atom_same, signed_same};
-ghost use Rattle.proof_steps.specs.Cited.{fact, is_that, cited};
+ghost use Rattle.law_clauses.specs.Signed.{plus, signed_of, signed_same};
+ghost use Rattle.proof_steps.specs.Cited.{fact, is_that};
 
 use crate::refutation::Step;
+use law_clauses::same_signed;
 use rule_terms::{Atom, Literal, StoreTerm, ValueTerm};
-
-#[tactic(auto, unfolding(crate::specs::Signed::atom_same))]
-pub fn same_atom(a: &Atom, b: &Atom) -> bool
-    ensures { result ≡ atom_same a.now b.now }
-{
-    match (a, b) {
-        (Atom::SameName(x, y), Atom::SameName(z, w)) => *x == *z && *y == *w,
-        (Atom::SameStore(a, b), Atom::SameStore(c, d)) => a.same(c) && b.same(d),
-        (Atom::SameValue(a, b), Atom::SameValue(c, d)) => a.same(c) && b.same(d),
-        (Atom::AtMost(a, b, x), Atom::AtMost(c, d, y)) => *x == *y && a.same(c) && b.same(d),
-        (Atom::Ends(s), Atom::Ends(t)) => s.same(t),
-        (Atom::Holds(j, s), Atom::Holds(k, t)) => *j == *k && s.same(t),
-        _ => false,
-    }
-}
-
-#[tactic(auto, unfolding(crate::specs::Signed::signed_same))]
-pub fn same_signed(x: &Literal, y: &Literal) -> bool
-    ensures { result ≡ signed_same (signed_of x.now) (signed_of y.now) }
-{
-    match (x.sign, y.sign) {
-        (true, true) => same_atom(&x.atom, &y.atom),
-        (false, false) => same_atom(&x.atom, &y.atom),
-        _ => false,
-    }
-}
 
 // The literal of the step of this number.
 pub fn fact(earlier: &[Step], k: u32) -> Option<&Literal>
@@ -55,7 +30,7 @@ pub fn says(earlier: &[Step], k: u32, x: &Literal) -> bool
     }
 }
 
-#[tactic(auto, unfolding(crate::specs::Signed::signed_same, crate::specs::Signed::atom_same))]
+#[tactic(auto, unfolding(law_clauses::specs::Signed::signed_same, law_clauses::specs::Signed::atom_same))]
 fn is_same_names(x: &Literal, n: u32, m: u32) -> bool
     ensures { result ≡ signed_same (signed_of x.now) (plus (SameName n m)) }
 {
@@ -65,7 +40,7 @@ fn is_same_names(x: &Literal, n: u32, m: u32) -> bool
     }
 }
 
-#[tactic(auto, unfolding(crate::specs::Signed::signed_same, crate::specs::Signed::atom_same))]
+#[tactic(auto, unfolding(law_clauses::specs::Signed::signed_same, law_clauses::specs::Signed::atom_same))]
 fn is_same_stores(x: &Literal, s: &StoreTerm, t: &StoreTerm) -> bool
     ensures { result ≡ signed_same (signed_of x.now) (plus (SameStore s.now t.now)) }
 {
@@ -75,7 +50,7 @@ fn is_same_stores(x: &Literal, s: &StoreTerm, t: &StoreTerm) -> bool
     }
 }
 
-#[tactic(auto, unfolding(crate::specs::Signed::signed_same, crate::specs::Signed::atom_same))]
+#[tactic(auto, unfolding(law_clauses::specs::Signed::signed_same, law_clauses::specs::Signed::atom_same))]
 fn is_same_values(x: &Literal, v: &ValueTerm, w: &ValueTerm) -> bool
     ensures { result ≡ signed_same (signed_of x.now) (plus (SameValue v.now w.now)) }
 {

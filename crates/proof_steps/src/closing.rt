@@ -3,12 +3,12 @@
 
 ghost use Rattle.std.specs.Prelude.{◌≡◌, ◌||◌};
 ghost use Rattle.std.specs.List.{list_any, list_all};
-ghost use Rattle.proof_steps.specs.Signed.{signed_of};
+ghost use Rattle.law_clauses.specs.Signed.{signed_of};
 ghost use Rattle.proof_steps.specs.Steps.{is_shallow};
 ghost use Rattle.proof_steps.specs.Refutes.{is_absurd, denies, closes};
 
-use crate::cited_lists::is_negation;
 use crate::refutation::Step;
+use law_clauses::is_negation;
 use rule_terms::{Atom, Literal};
 
 // A value that is at most itself less something.

@@ -2,7 +2,7 @@
 //! `specs/Steps.antt` has a definition of each.
 
 ghost use Rattle.std.specs.Prelude.{◌≡◌, Some};
-ghost use Rattle.proof_steps.specs.Signed.{signed_of};
+ghost use Rattle.law_clauses.specs.Signed.{signed_of};
 ghost use Rattle.proof_steps.specs.Cited.{fact};
 ghost use Rattle.proof_steps.specs.Steps.{by_itself, is_flipped, flipped, is_chain, chained, met};
 

@@ -3,15 +3,16 @@
 
 ghost use Rattle.std.specs.Prelude.{◌≡◌};
 ghost use Rattle.std.specs.List.{list_any};
-ghost use Rattle.proof_steps.specs.Signed.{signed_of, signed_same};
+ghost use Rattle.law_clauses.specs.Signed.{signed_of, signed_same};
 ghost use Rattle.proof_steps.specs.Steps.{is_given};
 ghost use Rattle.proof_steps.specs.Refutes.{denied, given_first};
 
-use crate::cited_lists::{is_among, is_negation};
+use crate::cited_lists::is_among;
+use law_clauses::is_negation;
 use rule_terms::{Literal, Obligation};
 
 // The negation of what the goal gives.
-#[tactic(auto, using(crate::proofs::Lists::or_false))]
+#[tactic(auto, using(law_clauses::proofs::Same::or_false))]
 fn is_denied(x: &Literal, gives: &Option<Literal>) -> bool
     ensures { result ≡ list_any (signed_same (signed_of x.now)) (denied gives.now) }
 {

@@ -2,14 +2,13 @@
 //! `specs/Steps.antt` says what is asked.
 
 ghost use Rattle.std.specs.Prelude.{◌≡◌, ◌<◌, length};
-ghost use Rattle.proof_steps.specs.Signed.{signed_of, all_signed};
+ghost use Rattle.law_clauses.specs.Signed.{signed_of, all_signed};
 ghost use Rattle.proof_steps.specs.Cited.{cited};
 ghost use Rattle.proof_steps.specs.Steps.{without, all_negated, by_law};
 
 use crate::cited_lists::are_denied;
-use crate::cites::same_signed;
-use crate::law_clauses::is_clause;
 use crate::refutation::Step;
+use law_clauses::{is_clause, same_signed};
 use rule_terms::{Literal, Obligation};
 
 // Whether the steps give the negations of the literals but that at `p`.

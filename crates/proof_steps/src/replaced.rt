@@ -113,7 +113,7 @@ pub fn index_pairs(
 }
 
 // .. that two places are the same cell, where they have as many indices
-#[tactic(auto, using(crate::proofs::Pairs::count_terms), unfolding(crate::specs::Replaced::left_by_pairs))]
+#[tactic(auto, using(law_clauses::proofs::Pairs::count_terms), unfolding(crate::specs::Replaced::left_by_pairs))]
 pub fn place_pairs(
     earlier: &[Step],
     from: &[u32],

@@ -4,7 +4,7 @@
 ghost use Rattle.std.specs.Prelude.{◌≡◌, nat_le};
 ghost use Rattle.std.specs.List.{list_all};
 ghost use Rattle.rule_terms.specs.Term.{value_depth};
-ghost use Rattle.proof_steps.specs.Signed.{signed_of};
+ghost use Rattle.law_clauses.specs.Signed.{signed_of};
 ghost use Rattle.proof_steps.specs.Steps.{is_given, follows, row_is_shallow, reason_is_shallow, step_holds};
 ghost use Rattle.proof_steps.specs.Refutes.{given_at};
 ghost use Rattle.proof_steps.specs.Turns.{assumed_list};

@@ -5,7 +5,7 @@ ghost use Rattle.std.specs.Prelude.{◌≡◌, ◌≤◌, ◌^◌, ◌+ℤ◌, �
 ghost use Rattle.std.specs.Option.{option_map};
 ghost use Rattle.rule_terms.specs.Term.{num, add, sub};
 ghost use Rattle.rule_terms.specs.Order.{value_same};
-ghost use Rattle.proof_steps.specs.Signed.{signed_of};
+ghost use Rattle.law_clauses.specs.Signed.{signed_of};
 ghost use Rattle.proof_steps.specs.Cited.{fact};
 ghost use Rattle.proof_steps.specs.Offsets.{offset};
 ghost use Rattle.proof_steps.specs.Sums.{bound, bound_of, bound_back, over, under, row_bound, in_range, goes_on, adds_up};
@@ -13,7 +13,7 @@ ghost use Rattle.proof_steps.specs.Steps.{summed};
 ghost use Rattle.proof_steps.specs.Rows.{side_of, offset_by, bound_by, reached, next_reached};
 
 use crate::refutation::{Step, SumRow};
-use crate::shapes::is_num;
+use law_clauses::is_num;
 use rule_terms::{Atom, Literal, ValueNode, ValueTerm};
 
 /// The greatest magnitude of a row's number and of a sum.
@@ -94,7 +94,7 @@ fn is_number(z: i64, w: &ValueTerm) -> bool
     }
 }
 
-#[tactic(auto, using(crate::proofs::Lists::num_same), unfolding(rule_terms::specs::Order::value_cmp))]
+#[tactic(auto, using(law_clauses::proofs::Same::num_same), unfolding(rule_terms::specs::Order::value_cmp))]
 fn same_side(a: Side<'_>, b: Side<'_>) -> bool
     ensures { result ≡ value_same (side_of a.entry) (side_of b.entry) }
 {

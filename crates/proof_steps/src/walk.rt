@@ -4,7 +4,7 @@
 
 ghost use Rattle.std.specs.Prelude.{◌≡◌, ◌&&◌, ◌∷◌, IsTrue};
 ghost use Rattle.term_meaning.specs.Meaning.{ObligationHolds};
-ghost use Rattle.proof_steps.specs.Signed.{signed_of, negated};
+ghost use Rattle.law_clauses.specs.Signed.{signed_of, negated};
 ghost use Rattle.proof_steps.specs.Refutes.{refutes_under, refutes};
 ghost use Rattle.proof_steps.specs.Turns.{assumed_list};
 

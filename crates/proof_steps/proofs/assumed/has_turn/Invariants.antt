@@ -1,7 +1,7 @@
 -- What is left of the turns has one that assumes the literal exactly where all of them have.
 use Rattle.std.proofs.Common.{◌≡◌, drop}
 use Rattle.std.specs.List.{list_any}
-use Rattle.proof_steps.specs.Signed.{signed_of}
+use Rattle.law_clauses.specs.Signed.{signed_of}
 use Rattle.proof_steps.specs.Turns.{is_turn}
 use Rattle.proof_steps.proofs.assumed.has_turn.Given as goal
 

@@ -1,6 +1,6 @@
 -- As many steps as literals, and what is left of them is denied exactly where all are.
 use Rattle.std.proofs.Common.{◌≡◌, length, drop}
-use Rattle.proof_steps.specs.Signed.{all_signed}
+use Rattle.law_clauses.specs.Signed.{all_signed}
 use Rattle.proof_steps.specs.Cited.{cited}
 use Rattle.proof_steps.specs.Steps.{all_negated}
 use Rattle.proof_steps.proofs.cited_lists.are_denied.Given as goal

@@ -1,7 +1,7 @@
 -- What is left of the list has the literal exactly where the whole list has.
 use Rattle.std.proofs.Common.{◌≡◌, drop}
 use Rattle.std.specs.List.{list_any}
-use Rattle.proof_steps.specs.Signed.{signed_of, all_signed, signed_same}
+use Rattle.law_clauses.specs.Signed.{signed_of, all_signed, signed_same}
 use Rattle.proof_steps.proofs.cited_lists.is_among.Given as goal
 
 abbrev pub invariant-loop-y : goal.invariant-loop-y

@@ -1,7 +1,7 @@
 -- What is left of the steps has one that denies exactly where all of them have.
 use Rattle.std.proofs.Common.{◌≡◌, drop}
 use Rattle.std.specs.List.{list_any}
-use Rattle.proof_steps.specs.Signed.{signed_of}
+use Rattle.law_clauses.specs.Signed.{signed_of}
 use Rattle.proof_steps.specs.Refutes.{denies}
 use Rattle.proof_steps.proofs.closing.some_denies.Given as goal
 

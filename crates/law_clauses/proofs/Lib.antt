@@ -1,0 +1,15 @@
+pub mod ClauseLengths
+pub mod Clauses
+pub mod ConditionClauses
+pub mod ConditionTable
+pub mod Each
+pub mod Meant
+pub mod NumberClauses
+pub mod NumberTable
+pub mod Pairs
+pub mod Same
+pub mod ShortClauses
+pub mod TableTerms
+pub mod WalkedWrites
+pub mod WriteClauses
+pub mod WriteTable

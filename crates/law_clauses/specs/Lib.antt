@@ -1,0 +1,10 @@
+pub mod ClauseLaws
+pub mod ConditionLaws
+pub mod Laws
+pub mod Listed
+pub mod NumberLaws
+pub mod Shapes
+pub mod ShortLaws
+pub mod Signed
+pub mod WriteLaws
+pub mod WrittenAlike

@@ -1,8 +1,0 @@
--- What is left of the list has a condition that is looked for exactly where the whole list has.
-use Rattle.std.proofs.Common.{◌≡◌, drop}
-use Rattle.std.specs.List.{list_any}
-use Rattle.proof_steps.specs.Listed.{is_constant}
-use Rattle.proof_steps.proofs.listed.constant.Given as goal
-
-abbrev pub invariant-loop-condition : goal.invariant-loop-condition
-invariant-loop-condition l = list_any (is_constant l.e) (drop l.condition-index l.conditions) ≡ list_any (is_constant l.e) l.conditions
