@@ -1,5 +1,5 @@
 -- Arguments of terms pair by pair, the indices before what stands behind them.
-use Rattle.std.specs.Prelude.{◌≡◌, ◌≤◌, ◌<◌, ℕ, zero, suc, length, true, false, Bool, ◌&&◌, List, [], ◌∷◌, Option, Some, None, refl}
+use Rattle.std.specs.Prelude.{◌≡◌, ◌≤◌, ◌<◌, ℕ, zero, suc, length, true, false, List, [], ◌∷◌, Option, Some, refl}
 use Rattle.std.proofs.Common.{ap, drop, arith}
 use Rattle.std.proofs.lemmas.List.{drop_all}
 use Rattle.rule_terms.specs.Term.{StoreTerm, put, ValueTerm, get, ValueTerms, no_terms, term}

@@ -1,10 +1,9 @@
 -- Rows of a sum one by one, and constants by the shape of a term.
-use Rattle.std.specs.Prelude.{◌≡◌, ℕ, ℤ, ◌+ℤ◌, Bool, true, false, ◌&&◌, List, [], ◌∷◌, Option, Some, None, refl}
+use Rattle.std.specs.Prelude.{◌≡◌, ℤ, ◌+ℤ◌, Bool, true, false, ◌&&◌, List, ◌∷◌, Option, Some, None, refl}
 use Rattle.std.proofs.Common.{ap, ◌∙◌}
 use Rattle.std.specs.Ordering.{int_eq}
 use Rattle.rule_terms.specs.Term.{ValueTerm, num, get, ev, add, sub, mul}
 use Rattle.rule_terms.specs.Order.{value_cmp, value_same}
-use Rattle.law_clauses.specs.Shapes.{is_num}
 use Rattle.proof_steps.specs.declared.refutation.Step.{Step}
 use Rattle.proof_steps.specs.declared.refutation.SumRow.{SumRow}
 use Rattle.proof_steps.specs.Sums.{Bound, row_bound, goes_on, goes_on_by, adds_up}

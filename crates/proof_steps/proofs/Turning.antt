@@ -1,5 +1,5 @@
 -- Turns that are taken and taken back, and what is left to be right behind them.
-use Rattle.std.specs.Prelude.{◌≡◌, ℕ, suc, ◌+◌, ◌*◌, ◌<◌, ◌≤◌, Bool, true, false, ◌&&◌, ◌||◌, List, [], ◌∷◌, ◌++◌, length, take, slice_set, slice_index_or, Option, Some, None, refl}
+use Rattle.std.specs.Prelude.{◌≡◌, ℕ, ◌+◌, ◌*◌, ◌<◌, ◌≤◌, Bool, true, false, ◌&&◌, ◌||◌, List, [], ◌∷◌, ◌++◌, length, take, slice_set, slice_index_or, Option, Some, None, refl}
 use Rattle.std.proofs.Common.{sym, ◌∙◌, ap, arith}
 use Rattle.std.proofs.lemmas.List.{take_more_set, take_more}
 use Rattle.std.specs.List.{list_any}
@@ -12,7 +12,7 @@ use Rattle.proof_steps.specs.declared.refutation.Refutation.{Refutation}
 use Rattle.proof_steps.specs.declared.refutation.Refutation.TheVariants.{Split}
 use Rattle.proof_steps.specs.Steps.{is_shallow}
 use Rattle.proof_steps.specs.Refutes.{refutes_under}
-use Rattle.proof_steps.specs.Turns.{assumed_by, turn_assumes, is_turn, turned, owed_by, owed, all_owed, rank, rank_by, rank_turn, rank_owed, left, rank_left}
+use Rattle.proof_steps.specs.Turns.{turn_assumes, is_turn, turned, owed_by, owed, all_owed, rank, rank_by, rank_turn, rank_owed, left, rank_left}
 use Rattle.proof_steps.proofs.Refuting.{split_under, rank_split}
 
 -- ---- tests

@@ -1,6 +1,6 @@
 -- What is assumed on the way to a part of a refutation: the turns that were taken at open splits, the oldest first.
 -- A turn whose second branch is still to be walked is in the first branch, and assumes the literal; another assumes its negation.
-use Rattle.std.specs.Prelude.{ℕ, suc, ◌+◌, Bool, true, ◌&&◌, List, [], ◌∷◌, Option, Some, None}
+use Rattle.std.specs.Prelude.{ℕ, ◌+◌, Bool, true, ◌&&◌, List, [], ◌∷◌, Option, Some, None}
 use Rattle.rule_terms.specs.declared.obligation.Obligation.{Obligation}
 use Rattle.law_clauses.specs.Signed.{Signed, signed_of, negated, signed_same}
 use Rattle.proof_steps.specs.declared.refutation.Refutation.{Refutation, fold-Refutation}

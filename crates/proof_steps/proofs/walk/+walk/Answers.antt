@@ -1,4 +1,4 @@
-use Rattle.std.proofs.Common.{◌≡◌, ◌≤◌, ◌<◌, ◌+◌, ◌-◌, ◌*◌, ℕ, length, sym, ◌∙◌, arith, true}
+use Rattle.std.proofs.Common.{◌≡◌, ◌<◌, ◌+◌, ◌-◌, length, sym, ◌∙◌, arith}
 use Rattle.std.proofs.Math.ListN.{length-set}
 use Rattle.proof_steps.specs.declared.refutation.Refutation.TheVariants.{Split}
 use Rattle.proof_steps.proofs.Turning.{opened, opened_small, opened_smaller, turned_to, turned_small, turned_smaller, taken_back, back_rank}

@@ -1,5 +1,5 @@
 -- What is left to be right is right exactly where the split is, and it gets less.
-use Rattle.std.proofs.Common.{◌≡◌, ◌&&◌, ◌∷◌, ℕ, ◌+◌, ◌-◌, ◌*◌, ◌<◌, ◌≤◌, length, take}
+use Rattle.std.proofs.Common.{◌≡◌, ◌&&◌, ◌∷◌, ◌+◌, ◌*◌, ◌≤◌, length, take}
 use Rattle.law_clauses.specs.Signed.{signed_of, negated}
 use Rattle.proof_steps.specs.Refutes.{refutes_under}
 use Rattle.proof_steps.specs.Turns.{assumed_list, left, rank, rank_left}
