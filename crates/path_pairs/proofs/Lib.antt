@@ -5,6 +5,7 @@ pub mod Examples
 pub mod FromPoints
 pub mod Joining
 pub mod OnePaths
+pub mod OpenSides
 pub mod OutcomeLengths
 pub mod OutcomeTruths
 pub mod Passing

@@ -1,4 +1,4 @@
-use Rattle.std.proofs.Common.{◌+◌, ◌-◌, ◌^◌, ◌<◌, refl, rules, arith}
+use Rattle.std.proofs.Common.{◌+◌, ◌^◌, ◌<◌, refl, rules, arith}
 use Rattle.toy_imp.specs.BlockFalls.{stmt_item}
 use Rattle.toy_imp.specs.BlockView.{block_of}
 use Rattle.toy_imp.specs.Points.{stmt_count, point_count}
