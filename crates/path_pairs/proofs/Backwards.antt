@@ -22,7 +22,7 @@ behind_start bound of_block law first after stmts i n e d h =
     record { within = omega (arith, e); numbered = omega (arith, none, d); counted = omega (arith, behind, h) }
 
 -- at a place, and behind it
-at_place : (stmts : List Stmt) (i : ℕ) (s : Stmt) → i < length stmts → s ≡ get_or stmts i s → block_of (drop i stmts) ≡ stmt s (block_of (drop (i + 1) stmts))
+pub at_place : (stmts : List Stmt) (i : ℕ) (s : Stmt) → i < length stmts → s ≡ get_or stmts i s → block_of (drop i stmts) ≡ stmt s (block_of (drop (i + 1) stmts))
 at_place stmts i s h e = ap block_of (drop_more stmts i s h) ∙ ap (λ x. stmt x (block_of (drop (i + 1) stmts))) (sym e)
 
 fewer : (stmts : List Stmt) (i : ℕ) → point_count (block_of (drop i stmts)) ≤ point_count (block_of stmts)

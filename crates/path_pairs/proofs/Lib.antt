@@ -2,13 +2,17 @@ pub mod Backwards
 pub mod Capped
 pub mod Comings
 pub mod Examples
+pub mod FromNext
 pub mod FromPoints
 pub mod Joining
+pub mod LargeWalks
+pub mod NodesAt
 pub mod OnePaths
 pub mod OpenSides
 pub mod OutcomeLengths
 pub mod OutcomeTruths
 pub mod Passing
+pub mod RestsAt
 pub mod Saturating
 pub mod Standing
 pub mod Stopping

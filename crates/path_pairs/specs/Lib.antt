@@ -1,10 +1,15 @@
 pub mod Along
 pub mod Comes
 pub mod Cuts
+pub mod NodeCounts
 pub mod Open
 pub mod OutcomeCounts
 pub mod Outcomes
+pub mod PathAnswers
 pub mod PathLaws
 pub mod Paths
 pub mod Rests
+pub mod RestsFound
+pub mod Stretches
+pub mod Walkable
 pub mod Walks

@@ -3,6 +3,7 @@
 
 ghost use Rattle.std.specs.Prelude.{◌≡◌, ◌+◌, ◌*◌, ◌^◌, ◌<◌, ◌≤◌, min, true, false};
 ghost use Rattle.rule_terms.specs.Counts.{saturated};
+ghost use Rattle.toy_imp.specs.BlockView.{block_of};
 ghost use Rattle.toy_imp.specs.Points.{stmt_count, point_count};
 ghost use Rattle.path_pairs.specs.OutcomeCounts.{outcome_count};
 ghost use Rattle.path_pairs.specs.Walks.{is_cut};
@@ -13,12 +14,20 @@ use toy_imp::{Block, Stmt, StmtNode, Test};
 
 /// The number of points inside a block, or 2^64 - 1 where there are more.
 #[cycle(count)]
-#[tactic(auto, using(toy_imp::specs::BlockFalls::stmt_item, toy_imp::proofs::PointPlaces::counted_all))]
 pub fn block_points(b: &Block) -> u64
     ensures { result ≡ saturated (point_count b.now) }
 {
+    points_along(b.stmts.as_slice())
+}
+
+/// The number of points in statements one after another, likewise.
+#[cycle(count)]
+#[tactic(auto, using(toy_imp::specs::BlockFalls::stmt_item, toy_imp::proofs::PointPlaces::counted_all))]
+pub fn points_along(stmts: &[Stmt]) -> u64
+    ensures { result ≡ saturated (point_count (block_of stmts.now)) }
+{
     let mut count: u64 = 0;
-    for s in b.stmts.as_slice() {
+    for s in stmts {
         count = count.saturating_add(stmt_points(s));
     }
     count
@@ -81,8 +90,8 @@ fn stmt_passes(cuts: &[u32], n: u64, s: &Stmt) -> bool
     }
 }
 
-// One step more, up to 65.
-fn one_more(steps: u64) -> u64
+/// One step more, up to 65.
+pub fn one_more(steps: u64) -> u64
     requires { steps ≤ 65 }
     ensures { result ≡ min 65 (steps + 1) }
 {
@@ -92,15 +101,24 @@ fn one_more(steps: u64) -> u64
 /// The steps of the longest walk before a stop, where walks behind the block make `after`; 65 where
 /// there are more.
 #[cycle(steps)]
-#[tactic(auto, using(toy_imp::specs::BlockFalls::stmt_item))]
 pub fn most_steps(cuts: &[u32], first: u64, b: &Block, after: u64) -> u64
     requires numbers { first + point_count b.now < 2 ^ 64 }
     requires after { after ≤ 65 }
     ensures { result ≡ min 65 (most_steps cuts.now first b.now after) }
 {
-    let stmts = b.stmts.as_slice();
+    steps_along(cuts, first, b.stmts.as_slice(), after)
+}
+
+/// The same of statements one after another.
+#[cycle(steps)]
+#[tactic(auto, using(toy_imp::specs::BlockFalls::stmt_item))]
+pub fn steps_along(cuts: &[u32], first: u64, stmts: &[Stmt], after: u64) -> u64
+    requires numbers { first + point_count (block_of stmts.now) < 2 ^ 64 }
+    requires after { after ≤ 65 }
+    ensures { result ≡ min 65 (most_steps cuts.now first (block_of stmts.now) after) }
+{
     let mut at = stmts.len();
-    let mut n = first + block_points(b);
+    let mut n = first + points_along(stmts);
     let mut most = after;
     while at > 0 {
         at -= 1;
@@ -111,9 +129,9 @@ pub fn most_steps(cuts: &[u32], first: u64, b: &Block, after: u64) -> u64
     most
 }
 
-// The same of a statement.
+/// The same of a statement.
 #[cycle(steps)]
-fn stmt_steps(cuts: &[u32], n: u64, s: &Stmt, after: u64) -> u64
+pub fn stmt_steps(cuts: &[u32], n: u64, s: &Stmt, after: u64) -> u64
     requires numbers { n + stmt_count s.now < 2 ^ 64 }
     requires after { after ≤ 65 }
     ensures { result ≡ min 65 (stmt_steps cuts.now n s.now after) }
@@ -149,14 +167,22 @@ fn stmt_steps(cuts: &[u32], n: u64, s: &Stmt, after: u64) -> u64
 /// How many walks there are up to their stop, where this many go on behind the block and no loop
 /// goes on; the number stands still at 2^64 - 1.
 #[cycle(walks)]
-#[tactic(auto, using(toy_imp::specs::BlockFalls::stmt_item))]
 pub fn walk_count(cuts: &[u32], first: u64, b: &Block, after: u64) -> u64
     requires { first + point_count b.now < 2 ^ 64 }
     ensures { result ≡ saturated (walk_count cuts.now first b.now after) }
 {
-    let stmts = b.stmts.as_slice();
+    walks_along(cuts, first, b.stmts.as_slice(), after)
+}
+
+/// The same of statements one after another.
+#[cycle(walks)]
+#[tactic(auto, using(toy_imp::specs::BlockFalls::stmt_item))]
+pub fn walks_along(cuts: &[u32], first: u64, stmts: &[Stmt], after: u64) -> u64
+    requires { first + point_count (block_of stmts.now) < 2 ^ 64 }
+    ensures { result ≡ saturated (walk_count cuts.now first (block_of stmts.now) after) }
+{
     let mut at = stmts.len();
-    let mut n = first + block_points(b);
+    let mut n = first + points_along(stmts);
     let mut count = after;
     while at > 0 {
         at -= 1;
@@ -167,10 +193,10 @@ pub fn walk_count(cuts: &[u32], first: u64, b: &Block, after: u64) -> u64
     count
 }
 
-// The same of a statement.
+/// The same of a statement.
 #[cycle(walks)]
 #[tactic(auto, using(crate::proofs::Capped::saturated_each, crate::proofs::Capped::saturated_first))]
-fn stmt_walks(cuts: &[u32], n: u64, s: &Stmt, after: u64) -> u64
+pub fn stmt_walks(cuts: &[u32], n: u64, s: &Stmt, after: u64) -> u64
     requires { n + stmt_count s.now < 2 ^ 64 }
     ensures { result ≡ saturated (stmt_walks cuts.now n s.now after) }
 {
@@ -199,9 +225,9 @@ fn stmt_walks(cuts: &[u32], n: u64, s: &Stmt, after: u64) -> u64
     }
 }
 
-// So many walks for each outcome of a test in which it is true, and so many for each other one.
+/// So many walks for each outcome of a test in which it is true, and so many for each other one.
 #[tactic(auto, using(crate::proofs::Capped::saturated_test))]
-fn by_outcomes(t: &Test, yes: u64, no: u64) -> u64
+pub fn by_outcomes(t: &Test, yes: u64, no: u64) -> u64
     ensures { result ≡ saturated (outcome_count t.now true * yes + outcome_count t.now false * no) }
 {
     let counts = outcome_counts(t);

@@ -6,10 +6,16 @@ mod along;
 mod counting;
 mod cut_points;
 pub mod laws;
+mod limits;
+mod locations;
+mod node_counts;
+mod refusal;
+mod stretch;
 mod test_outcome;
 #[cfg(test)]
 mod tests;
 
 pub use counting::{OutcomeCounts, outcome_counts};
 pub use cut_points::{CutPoints, LimitMark, Side};
+pub use refusal::PathRefusal;
 pub use test_outcome::outcomes;
