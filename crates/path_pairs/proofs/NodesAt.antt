@@ -1,12 +1,14 @@
 -- The terms of an expression and the outcomes of a test at a store have as many nodes as the counts say.
 use Rattle.std.specs.Prelude.{◌≡◌, ℕ, suc, ◌+◌, ◌-◌, ◌≤◌, ◌⊎◌, min, max, Bool, true, false, not, ◌||◌, nat_le, List, [], ◌∷◌, ◌++◌, map, refl}
 use Rattle.std.specs.List.{list_any}
-use Rattle.std.proofs.Common.{◌∙◌, ap, subst, inl, inr, arith}
+use Rattle.std.proofs.Common.{sym, ◌∙◌, ap, subst, inl, inr, arith}
 use Rattle.std.proofs.lemmas.Bool.Decides.{nat_tests}
 use Rattle.std.proofs.lemmas.List.Folds.{list_any-append}
 use Rattle.toy_imp.specs.Expr.{Expr, num, at, add, sub, mul, par_expr, Exprs, no_exprs, expr}
 use Rattle.toy_imp.specs.Test.{Test, less, less_eq, equal, not_of, and_of, or_of, par_test}
 use Rattle.rule_terms.specs.Term.{StoreTerm}
+use Rattle.rule_terms.specs.Term as term
+use Rattle.rule_terms.specs.declared.obligation.Atom.TheVariants.{Ends}
 use Rattle.rule_terms.specs.ValueAt.{value_at, values_at}
 use Rattle.rule_terms.specs.Counts.{store_nodes, value_nodes, terms_nodes, atom_nodes, literals_nodes}
 use Rattle.rule_terms.specs.declared.obligation.Literal.{Literal}
@@ -31,6 +33,28 @@ mutual
 pub literals_append : (xs ys : List Literal) → literals_nodes (xs ++ ys) ≡ literals_nodes xs + literals_nodes ys
 literals_append [] ys = omega arith
 literals_append (x ∷ xs) ys = let e : literals_nodes (xs ++ ys) ≡ literals_nodes xs + literals_nodes ys = literals_append xs ys in omega (arith, e)
+
+-- of the store after a step, and of what says that it is one
+pub put_nodes : (s : StoreTerm) (k : ℕ) (es : Exprs) (e : Expr) (n : ℕ) → n ≡ store_nodes s
+    → store_nodes (term.put s k (values_at es s) (value_at e s)) ≡ n + (exprs_nodes es n + expr_nodes e n) + 1
+unfolding store_nodes
+put_nodes s k es e n h =
+    let all : suc (store_nodes s + (exprs_nodes es (store_nodes s) + expr_nodes e (store_nodes s))) ≡ suc (n + (exprs_nodes es n + expr_nodes e n)) =
+    ap (λ m. suc (m + (exprs_nodes es m + expr_nodes e m))) (sym h) in
+    (λ i. suc (store_nodes s + (nodes_at_all es s i + nodes_at e s i))) ∙ all ∙ omega arith
+
+pub run_nodes : (k : ℕ) (s : StoreTerm) → store_nodes (term.run k s) ≡ store_nodes s + 1
+unfolding store_nodes
+run_nodes k s = omega arith
+
+pub end_nodes : (ls : List Literal) (sign : Bool) (k : ℕ) (s : StoreTerm)
+    → literals_nodes (ls ++ record { sign = sign; atom = Ends (term.run k s) } ∷ []) ≡ literals_nodes ls + (store_nodes s + 2)
+unfolding atom_nodes store_nodes
+end_nodes ls sign k s = literals_append ls (record { sign = sign; atom = Ends (term.run k s) } ∷ []) ∙ omega arith
+
+pub with_end_is : (all ls before : List Literal) (sign : Bool) (k : ℕ) (s t : StoreTerm) → all ≡ before ++ record { sign = sign; atom = Ends t } ∷ [] → before ≡ ls → t ≡ term.run k s
+    → all ≡ ls ++ record { sign = sign; atom = Ends (term.run k s) } ∷ []
+with_end_is all ls before sign k s t e d c = e ∙ (λ i. d i ++ record { sign = sign; atom = Ends (c i) } ∷ [])
 
 -- an outcome of so many nodes at least
 abbrev pub has_nodes : ℕ → List Literal → Bool

@@ -154,7 +154,7 @@ seeks_next first stmts p i n m points s h e c small d low k =
           (past n p s (block_of (drop (i + 1) stmts)) plain (omega (arith, sum, low)) found (subst (λ j. Finds j (block_of (drop (i + 1) stmts)) p found) sum f)));
     }
 
-whole_rest : {A : Type 0} (k : ℕ) (xs : List A) → take (length xs - k) (drop k xs) ≡ drop k xs
+pub whole_rest : {A : Type 0} (k : ℕ) (xs : List A) → take (length xs - k) (drop k xs) ≡ drop k xs
 whole_rest k xs = take_all (length xs - k) (drop k xs) (omega (arith, length-drop k xs))
 
 seeks_found_behind : (first : ℕ) (stmts : List Stmt) (p i n points : ℕ) (s : Stmt) → i < length stmts → s ≡ get_or stmts i s → points ≡ saturated (stmt_count s)

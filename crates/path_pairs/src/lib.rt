@@ -8,6 +8,7 @@ mod cut_points;
 pub mod laws;
 mod limits;
 mod locations;
+mod met;
 mod node_counts;
 mod refusal;
 mod stretch;

@@ -8,7 +8,7 @@ ghost use Rattle.path_pairs.specs.Along.{stmt_steps, stmt_walks, rest_steps, res
 ghost use Rattle.path_pairs.specs.Stretches.{rest_of};
 ghost use Rattle.path_pairs.specs.Walkable.{AreWalkable};
 
-use crate::along::{block_points, by_outcomes, most_steps, one_more, stmt_points, stmt_steps, stmt_walks, steps_along, walk_count, walks_along};
+use crate::along::{block_points, by_outcomes, most_steps, one_more, stmt_steps, stmt_walks, steps_along, walk_count, walks_along};
 use crate::stretch::{Stretch, stands_next};
 use toy_imp::{Stmt, StmtNode};
 
@@ -17,9 +17,9 @@ fn rest_steps(cuts: &[u32], rest: &[Stretch<'_>]) -> u64
     requires { AreWalkable (rest_of rest.now) }
     ensures { result ≡ min 65 (rest_steps cuts.now (rest_of rest.now)) }
 {
-    match rest {
-        [] => 0,
-        [first, behind @ ..] => {
+    match rest.split_first() {
+        None => 0,
+        Some((first, behind)) => {
             let after = rest_steps(cuts, behind);
             steps_along(cuts, first.first, first.stmts, after)
         }
@@ -31,20 +31,21 @@ fn rest_walks(cuts: &[u32], rest: &[Stretch<'_>]) -> u64
     requires { AreWalkable (rest_of rest.now) }
     ensures { result ≡ saturated (rest_walks cuts.now (rest_of rest.now)) }
 {
-    match rest {
-        [] => 1,
-        [first, behind @ ..] => {
+    match rest.split_first() {
+        None => 1,
+        Some((first, behind)) => {
             let after = rest_walks(cuts, behind);
             walks_along(cuts, first.first, first.stmts, after)
         }
     }
 }
 
-// How far walks go after a first step over a statement, where those behind it go so far.
-fn stmt_onward(cuts: &[u32], n: u64, s: &Stmt, behind: u64) -> u64
+// How far walks go after a first step over a statement, where they go so far from it and behind it.
+fn stmt_onward(cuts: &[u32], n: u64, s: &Stmt, here: u64, behind: u64) -> u64
     requires numbers { n + stmt_count s.now < 2 ^ 64 }
+    requires here { here ≤ 65 }
     requires behind { behind ≤ 65 }
-    ensures { result ≡ min 65 (stmt_onward cuts.now n s.now (stmt_steps cuts.now n s.now behind) behind) }
+    ensures { result ≡ min 65 (stmt_onward cuts.now n s.now here behind) }
 {
     match &s.node {
         StmtNode::Skip => behind,
@@ -54,20 +55,18 @@ fn stmt_onward(cuts: &[u32], n: u64, s: &Stmt, behind: u64) -> u64
             let or_else = most_steps(cuts, n + block_points(b), c, behind);
             then.max(or_else)
         }
-        StmtNode::While(_, b) => {
-            let here = stmt_steps(cuts, n, s, behind);
-            most_steps(cuts, n + 1, b, here).max(behind)
-        }
+        StmtNode::While(_, b) => most_steps(cuts, n + 1, b, here).max(behind),
         StmtNode::For(_, _, _, _) => 0,
         StmtNode::Let(_, _, _) => 0,
         StmtNode::Par(_) => behind,
     }
 }
 
-// How many walks there are after a first step over a statement, where so many go on behind it.
-fn stmt_branches(cuts: &[u32], n: u64, s: &Stmt, behind: u64) -> u64
+// How many walks there are after a first step over a statement, where so many go on from it and behind it.
+#[tactic(auto, using(crate::proofs::Capped::saturated_each, crate::proofs::Capped::saturated_first))]
+fn stmt_branches(cuts: &[u32], n: u64, s: &Stmt, here: u64, behind: u64) -> u64
     requires { n + stmt_count s.now < 2 ^ 64 }
-    ensures { result ≡ saturated (stmt_branches cuts.now n s.now (stmt_walks cuts.now n s.now behind) behind) }
+    ensures { result ≡ saturated (stmt_branches cuts.now n s.now here behind) }
 {
     match &s.node {
         StmtNode::Skip => behind,
@@ -77,10 +76,7 @@ fn stmt_branches(cuts: &[u32], n: u64, s: &Stmt, behind: u64) -> u64
             let or_else = walk_count(cuts, n + block_points(b), c, behind);
             by_outcomes(t, then, or_else)
         }
-        StmtNode::While(t, b) => {
-            let here = stmt_walks(cuts, n, s, behind);
-            by_outcomes(t, walk_count(cuts, n + 1, b, here), behind)
-        }
+        StmtNode::While(t, b) => by_outcomes(t, walk_count(cuts, n + 1, b, here), behind),
         StmtNode::For(_, _, _, _) => 0,
         StmtNode::Let(_, _, _) => 0,
         StmtNode::Par(_) => behind.saturating_add(1),
@@ -92,13 +88,15 @@ fn steps_onward(cuts: &[u32], rest: &[Stretch<'_>]) -> u64
     requires { AreWalkable (rest_of rest.now) }
     ensures { result ≡ min 65 (rest_onward cuts.now (rest_of rest.now)) }
 {
-    let Some(at) = stands_next(rest) else {
-        return 0;
-    };
-    let after = rest_steps(cuts, at.behind);
-    let next = at.first + stmt_points(at.stmt);
-    let behind = steps_along(cuts, next, at.others, after);
-    stmt_onward(cuts, at.first, at.stmt, behind)
+    match stands_next(rest) {
+        None => 0,
+        Some(at) => {
+            let after = rest_steps(cuts, at.behind);
+            let behind = steps_along(cuts, at.next, at.others, after);
+            let here = stmt_steps(cuts, at.first, at.stmt, behind);
+            stmt_onward(cuts, at.first, at.stmt, here, behind)
+        }
+    }
 }
 
 // How many walks there are after a first step.
@@ -106,13 +104,15 @@ fn walks_onward(cuts: &[u32], rest: &[Stretch<'_>]) -> u64
     requires { AreWalkable (rest_of rest.now) }
     ensures { result ≡ saturated (rest_branches cuts.now (rest_of rest.now)) }
 {
-    let Some(at) = stands_next(rest) else {
-        return 0;
-    };
-    let after = rest_walks(cuts, at.behind);
-    let next = at.first + stmt_points(at.stmt);
-    let behind = walks_along(cuts, next, at.others, after);
-    stmt_branches(cuts, at.first, at.stmt, behind)
+    match stands_next(rest) {
+        None => 0,
+        Some(at) => {
+            let after = rest_walks(cuts, at.behind);
+            let behind = walks_along(cuts, at.next, at.others, after);
+            let here = stmt_walks(cuts, at.first, at.stmt, behind);
+            stmt_branches(cuts, at.first, at.stmt, here, behind)
+        }
+    }
 }
 
 /// The steps of the longest walk from the point `p`, where this stands; 65 where there are more.

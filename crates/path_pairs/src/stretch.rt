@@ -2,11 +2,11 @@
 //! `specs/Stretches.antt` says what a list of them stands for, `specs/Rests.antt` what stands where.
 
 ghost use Rattle.std.specs.Prelude.{◌≡◌, ◌∷◌, [], IfOk, MatchOption};
-ghost use Rattle.toy_imp.specs.Block.{stmt};
 ghost use Rattle.toy_imp.specs.BlockView.{block_of};
-ghost use Rattle.path_pairs.specs.Rests.{stretch};
 ghost use Rattle.path_pairs.specs.Stretches.{stretch_of, rest_of, from_next};
+ghost use Rattle.path_pairs.specs.Walkable.{AreWalkable, IsStanding};
 
+use crate::along::stmt_points;
 use sqlite_items::Items;
 use std::alloc::Global;
 use toy_imp::{NoMemory, Stmt};
@@ -25,6 +25,8 @@ pub struct Standing<'a> {
     /// The number of the first point in the statement.
     pub first: u64,
     pub stmt: &'a Stmt,
+    /// The number of the first point behind it.
+    pub next: u64,
     /// The statements behind it in its block.
     pub others: &'a [Stmt],
     /// What stands next, this statement first.
@@ -50,14 +52,16 @@ pub fn in_front<'a>(
 
 /// The statement that stands next, if one does.
 pub fn stands_next<'a>(rest: &'a [Stretch<'a>]) -> Option<Standing<'a>>
-    ensures parts { MatchOption result (from_next (rest_of rest.now) ≡ []) (λ at. from_next (rest_of rest.now) ≡ stretch at.first (stmt at.stmt.now (block_of at.others.now)) ∷ rest_of at.behind.now) }
-    ensures here { MatchOption result (from_next (rest_of rest.now) ≡ []) (λ at. from_next (rest_of rest.now) ≡ rest_of at.here.now) }
+    requires { AreWalkable (rest_of rest.now) }
+    ensures { MatchOption result (from_next (rest_of rest.now) ≡ []) (λ at. IsStanding (rest_of rest.now) at.first at.stmt.now at.next (block_of at.others.now) (rest_of at.here.now) (rest_of at.behind.now)) }
 {
     for i in 0..rest.len() {
-        if let Some((s, others)) = rest[i].stmts.split_first() {
+        let stretch = &rest[i];
+        if let Some((s, others)) = stretch.stmts.split_first() {
             return Some(Standing {
-                first: rest[i].first,
+                first: stretch.first,
                 stmt: s,
+                next: stretch.first + stmt_points(s),
                 others,
                 here: &rest[i..],
                 behind: &rest[i + 1..],
