@@ -1,5 +1,5 @@
 -- From the statement that stands next: it is walked over as all is, and walks go as far and are as many.
-use Rattle.std.specs.Prelude.{◌≡◌, ℕ, suc, ◌+◌, ◌*◌, ◌-◌, ◌^◌, ◌<◌, min, max, true, false, List, [], ◌∷◌, length, refl}
+use Rattle.std.specs.Prelude.{◌≡◌, ℕ, suc, ◌+◌, ◌*◌, ◌-◌, ◌^◌, ◌<◌, min, max, Bool, true, false, ◌&&◌, List, [], ◌∷◌, length, Option, Some, refl}
 use Rattle.std.proofs.Common.{sym, ◌∙◌, ap, subst, get_or, take, drop, arith}
 use Rattle.std.proofs.lemmas.Bool.{and_parts}
 use Rattle.std.proofs.lemmas.List.{drop_more}
@@ -15,6 +15,12 @@ use Rattle.path_pairs.specs.OutcomeCounts.{outcome_count}
 use Rattle.path_pairs.specs.Rests.{Rest, stretch}
 use Rattle.path_pairs.specs.Stretches.{rest_of, from_next}
 use Rattle.path_pairs.specs.Walkable.{IsWalkable, AreWalkable, IsStanding}
+use Rattle.rule_terms.specs.Term.{StoreTerm}
+use Rattle.rule_terms.specs.declared.obligation.Literal.{Literal}
+use Rattle.rule_terms.specs.declared.path.Stop.{Stop}
+use Rattle.rule_terms.specs.declared.path.Stop.TheVariants.{At}
+use Rattle.path_pairs.specs.Walks.{stmt_stop, rest_stop, stmt_step, rest_step}
+use Rattle.path_pairs.proofs.WalkSteps.{or_false}
 use Rattle.path_pairs.proofs.RestsAt.{whole_rest}
 use Rattle.path_pairs.proofs.Stopping.{or_neither}
 use Rattle.path_pairs.proofs.Capped.{capped, capped_stmt, saturated_block, saturated_stmt, saturated_each}
@@ -172,3 +178,47 @@ branches_are cuts rest here behind n m a b after from_behind from_here found at 
     ∙ saturated_branches cuts n a last
     ∙ ap (λ r. saturated (rest_branches cuts r)) (sym at.stands)
     ∙ ap saturated (sym (branches_next cuts rest))
+
+-- where a walk stops, and its next step
+stop_next : (cuts : List ℕ) (exit : ℕ) (rest : Rest) → rest_stop cuts exit rest ≡ rest_stop cuts exit (from_next rest)
+stop_next cuts exit [] = refl
+stop_next cuts exit (stretch n empty ∷ rest) = stop_next cuts exit rest
+stop_next cuts exit (stretch n (stmt a b) ∷ rest) = refl
+
+pub stop_none : (cuts : List ℕ) (exit : ℕ) (rest : Rest) → from_next rest ≡ [] → Some (At exit) ≡ rest_stop cuts exit rest
+stop_none cuts exit rest e = sym (stop_next cuts exit rest ∙ ap (rest_stop cuts exit) e)
+
+pub stop_some : (cuts : List ℕ) (exit : ℕ) (rest here behind : Rest) (n m : ℕ) (a : Stmt) (b : Block) (o : Option Stop) → IsStanding rest n a m b here behind → o ≡ stmt_stop cuts n a → o ≡ rest_stop cuts exit rest
+stop_some cuts exit rest here behind n m a b o at e = e ∙ sym (stop_next cuts exit rest ∙ ap (rest_stop cuts exit) at.stands)
+
+step_next : (rest : Rest) (ls : List Literal) (s : StoreTerm) → rest_step rest ls s ≡ rest_step (from_next rest) ls s
+step_next [] ls s = refl
+step_next (stretch n empty ∷ rest) ls s = step_next rest ls s
+step_next (stretch n (stmt a b) ∷ rest) ls s = refl
+
+pub step_none : (rest : Rest) (ls : List Literal) (s : StoreTerm) → from_next rest ≡ [] → rest_step rest ls s ≡ []
+step_none rest ls s e = step_next rest ls s ∙ ap (λ r. rest_step r ls s) e
+
+pub step_some : (rest here behind : Rest) (n m : ℕ) (a : Stmt) (b : Block) (ls : List Literal) (s : StoreTerm) → IsStanding rest n a m b here behind
+    → rest_step rest ls s ≡ stmt_step n a here (stretch m b ∷ behind) ls s
+step_some rest here behind n m a b ls s at =
+    let at_here : stretch n (stmt a b) ∷ behind ≡ here = sym at.stands ∙ at.from_here in
+    let number : n + stmt_count a ≡ m = sym at.next in
+    step_next rest ls s ∙ ap (λ r. rest_step r ls s) at.stands ∙ (λ i. stmt_step n a (at_here i) (stretch (number i) b ∷ behind) ls s)
+
+and_true : (x : Bool) → (x && true) ≡ x
+and_true true = refl
+and_true false = refl
+
+-- of a statement alone
+pub alone_walkable : (n : ℕ) (a : Stmt) (b : Block) → IsWalkable n (stmt a b) → IsWalkable n (stmt a empty)
+alone_walkable n a b h =
+    let small : n + (stmt_count a + point_count b) < 2 ^ 32 = h.numbered in
+    record {
+      numbered = omega (arith, small);
+      opened = and_true _ ∙ (and_parts (stmt_is_open a) (block_is_open b) h.opened).0;
+      unscoped = or_false _ ∙ (or_neither (stmt_has_scope a) (has_scope b) h.unscoped).0;
+    }
+
+pub here_walkable : (rest here behind : Rest) (n m : ℕ) (a : Stmt) (b : Block) → IsStanding rest n a m b here behind → AreWalkable rest → AreWalkable here
+here_walkable rest here behind n m a b at h = subst AreWalkable at.from_here (walkable_next rest h)

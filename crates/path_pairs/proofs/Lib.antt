@@ -1,3 +1,4 @@
+pub mod Adding
 pub mod Backwards
 pub mod Capped
 pub mod Comings
@@ -19,3 +20,4 @@ pub mod Stopping
 pub mod TrueSteps
 pub mod WalkLengths
 pub mod WalkSteps
+pub mod WalkedOn

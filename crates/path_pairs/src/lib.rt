@@ -13,6 +13,7 @@ mod node_counts;
 mod refusal;
 mod stretch;
 mod test_outcome;
+mod walking;
 #[cfg(test)]
 mod tests;
 

@@ -21,7 +21,7 @@ pub struct Stretch<'a> {
 
 /// A statement that stands next, with what stands around it.
 #[derive(Clone, Copy)]
-pub struct Standing<'a> {
+pub struct Standing<'r, 'a> {
     /// The number of the first point in the statement.
     pub first: u64,
     pub stmt: &'a Stmt,
@@ -30,9 +30,9 @@ pub struct Standing<'a> {
     /// The statements behind it in its block.
     pub others: &'a [Stmt],
     /// What stands next, this statement first.
-    pub here: &'a [Stretch<'a>],
+    pub here: &'r [Stretch<'a>],
     /// What stands behind the block.
-    pub behind: &'a [Stretch<'a>],
+    pub behind: &'r [Stretch<'a>],
 }
 
 /// A stretch in front of others.
@@ -51,7 +51,7 @@ pub fn in_front<'a>(
 }
 
 /// The statement that stands next, if one does.
-pub fn stands_next<'a>(rest: &'a [Stretch<'a>]) -> Option<Standing<'a>>
+pub fn stands_next<'r, 'a>(rest: &'r [Stretch<'a>]) -> Option<Standing<'r, 'a>>
     requires { AreWalkable (rest_of rest.now) }
     ensures { MatchOption result (from_next (rest_of rest.now) ≡ []) (λ at. IsStanding (rest_of rest.now) at.first at.stmt.now at.next (block_of at.others.now) (rest_of at.here.now) (rest_of at.behind.now)) }
 {
