@@ -1,10 +1,9 @@
 -- Paths that are added one list after another, and walks of too many nodes.
-use Rattle.std.specs.Prelude.{◌≡◌, ℕ, suc, ◌+◌, ◌≤◌, ◌<◌, nat_lt, nat_le, Bool, true, false, ◌||◌, List, [], ◌∷◌, ◌++◌, length, flat_map, Result, Ok, Err, None, Some, refl}
+use Rattle.std.specs.Prelude.{◌≡◌, ℕ, suc, ◌+◌, ◌≤◌, ◌<◌, nat_lt, Bool, true, false, ◌||◌, List, [], ◌∷◌, ◌++◌, length, flat_map, Result, Ok, Err, Some, refl}
 use Rattle.std.specs.List.{list_any}
 use Rattle.std.proofs.Common.{sym, ◌∙◌, ap, subst, get_or, drop, inl, inr, arith}
 use Rattle.std.proofs.lemmas.List.{append_assoc, append-nil, drop_more, drop_all}
 use Rattle.std.proofs.lemmas.List.Folds.{list_any-append}
-use Rattle.std.proofs.lemmas.Grind.{flat_map-append}
 use Rattle.toy_imp.specs.Test.{Test}
 use Rattle.rule_terms.specs.Term.{StoreTerm}
 use Rattle.rule_terms.specs.Counts.{store_nodes, literals_nodes}
@@ -19,8 +18,8 @@ use Rattle.path_pairs.specs.PathAnswers.{Adds, RefusesNodes}
 use Rattle.path_pairs.specs.Paths.{path_nodes, is_large_path}
 use Rattle.path_pairs.specs.Rests.{Rest, stretch}
 use Rattle.path_pairs.specs.Walkable.{AreWalkable}
-use Rattle.path_pairs.specs.Walks.{Walk, stands, by_each, walks, goes_on}
-use Rattle.path_pairs.proofs.LargeWalks.{rest_is_plain, goes_large, large_test, large_is}
+use Rattle.path_pairs.specs.Walks.{stands, by_each, walks, goes_on}
+use Rattle.path_pairs.proofs.LargeWalks.{rest_is_plain, goes_large, large_is}
 use Rattle.path_pairs.proofs.NodesAt.{literals_append, has_nodes, le_is, some_has_nodes}
 use Rattle.path_pairs.proofs.Stopping.{or_cases, or_neither}
 
@@ -43,9 +42,10 @@ some_second : (f g : List Path) → list_any is_large_path g ≡ true → list_a
 some_second f g h = list_any-append is_large_path f g ∙ or_right (list_any is_large_path f) (list_any is_large_path g) h
 
 pub adds_then : {A B : Type 0} (f g before mid after : List Path) (u : A) (r : Result B PathRefusal) → Adds f before mid (Ok u) → Adds g mid after r → Adds (f ++ g) before after r
-adds_then f g before mid after u (Ok v) h k =
-    (k.0 ∙ ap (λ xs. xs ++ g) h.0 ∙ append_assoc before f g,
-    list_any-append is_large_path f g ∙ both_false (list_any is_large_path f) (list_any is_large_path g) h.1 k.1)
+adds_then f g before mid after u (Ok v) h k = (
+  k.0 ∙ ap (λ xs. xs ++ g) h.0 ∙ append_assoc before f g,
+  list_any-append is_large_path f g ∙ both_false (list_any is_large_path f) (list_any is_large_path g) h.1 k.1,
+)
 adds_then f g before mid after u (Err (Limit what)) h k = (k.0, some_second f g k.1)
 adds_then f g before mid after u (Err NoMemory) h k = tt
 
@@ -88,7 +88,7 @@ pub each_ends : (k : ℕ) (cuts : List ℕ) (exit : ℕ) (found : List (List Lit
     → i < length found → o ≡ get_or found i o → EachAdded k cuts exit found ls s rest before i all → goes_on (suc k) cuts exit (stands (ls ++ o) s rest) ≡ false
 each_ends k cuts exit found ls s rest before all i o h e c =
     (or_neither (goes_on (suc k) cuts exit (stands (ls ++ o) s rest)) (list_any (goes_on (suc k) cuts exit) (by_each (drop (i + 1) found) ls s rest))
-        (sym (ap (λ xs. list_any (goes_on (suc k) cuts exit) (by_each xs ls s rest)) (opened k cuts exit found ls s rest i o h e)) ∙ c.ends)).0
+    (sym (ap (λ xs. list_any (goes_on (suc k) cuts exit) (by_each xs ls s rest)) (opened k cuts exit found ls s rest i o h e)) ∙ c.ends)).0
 
 pub each_next : {A : Type 0} (k : ℕ) (cuts : List ℕ) (exit : ℕ) (found : List (List Literal)) (ls : List Literal) (s : StoreTerm) (rest : Rest) (before all more : List Path) (i : ℕ) (o : List Literal) (u : A)
     → i < length found → o ≡ get_or found i o → Adds (walks k cuts exit (stands (ls ++ o) s rest)) all more (Ok u) → EachAdded k cuts exit found ls s rest before i all
@@ -119,9 +119,10 @@ each_stop A B k cuts exit found ls s rest before all more after i o NoMemory h e
 pub each_end : {A : Type 0} (k : ℕ) (cuts : List ℕ) (exit : ℕ) (found : List (List Literal)) (ls : List Literal) (s : StoreTerm) (rest : Rest) (before all : List Path) (i : ℕ) (u : A)
     → length found ≤ i → EachAdded k cuts exit found ls s rest before i all → Adds (flat_map (walks k cuts exit) (by_each found ls s rest)) before all (Ok u)
 each_end k cuts exit found ls s rest before all i u h c =
-    let done : drop i found ≡ [] = drop_all i found h in
-    (sym (append-nil all) ∙ ap (λ xs. all ++ flat_map (walks k cuts exit) (by_each xs ls s rest)) (sym done) ∙ c.left,
-    c.small ∙ ap (λ xs. list_any is_large_path (flat_map (walks k cuts exit) (by_each xs ls s rest))) done)
+    let done : drop i found ≡ [] = drop_all i found h in (
+      sym (append-nil all) ∙ ap (λ xs. all ++ flat_map (walks k cuts exit) (by_each xs ls s rest)) (sym done) ∙ c.left,
+      c.small ∙ ap (λ xs. list_any is_large_path (flat_map (walks k cuts exit) (by_each xs ls s rest))) done,
+    )
 
 -- some outcome makes a walk of too many nodes
 large_each : (k : ℕ) (cuts : List ℕ) (exit j : ℕ) (found : List (List Literal)) (ls : List Literal) (s : StoreTerm) (rest : Rest) → AreWalkable rest

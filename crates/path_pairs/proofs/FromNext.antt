@@ -30,7 +30,7 @@ walkable_next [] h = h
 walkable_next (stretch n empty ∷ rest) h = walkable_next rest h.1
 walkable_next (stretch n (stmt a b) ∷ rest) h = h
 
-others_walkable : (n m : ℕ) (a : Stmt) (b : Block) → m ≡ n + stmt_count a → IsWalkable n (stmt a b) → IsWalkable m b
+pub others_walkable : (n m : ℕ) (a : Stmt) (b : Block) → m ≡ n + stmt_count a → IsWalkable n (stmt a b) → IsWalkable m b
 others_walkable n m a b e h =
     let small : n + (stmt_count a + point_count b) < 2 ^ 32 = h.numbered in
     record {
@@ -103,7 +103,7 @@ capped_onward cuts n (if_then t b c) m = capped_both _ _ _ _ (capped cuts n b m)
 capped_onward cuts n (while_do t b) m =
     capped_both _ _ _ _
     (capped cuts (suc n) b (stmt_steps cuts n (while_do t b) (min 65 m))
-        ∙ capped_same cuts (suc n) b (stmt_steps cuts n (while_do t b) (min 65 m)) (stmt_steps cuts n (while_do t b) m) (capped_stmt cuts n (while_do t b) m)) (capped_twice m)
+    ∙ capped_same cuts (suc n) b (stmt_steps cuts n (while_do t b) (min 65 m)) (stmt_steps cuts n (while_do t b) m) (capped_stmt cuts n (while_do t b) m)) (capped_twice m)
 capped_onward cuts n (for_to x lo hi b) m = refl
 capped_onward cuts n (let_in x e b) m = refl
 capped_onward cuts n (par_stmt k) m = capped_twice m
@@ -126,7 +126,7 @@ saturated_branches cuts n (if_then t b c) m =
 saturated_branches cuts n (while_do t b) m =
     saturated_both (outcome_count t true) (outcome_count t false) _ _ _ _
     (saturated_block cuts (suc n) b (stmt_walks cuts n (while_do t b) (saturated m))
-        ∙ saturated_same cuts (suc n) b (stmt_walks cuts n (while_do t b) (saturated m)) (stmt_walks cuts n (while_do t b) m) (saturated_stmt cuts n (while_do t b) m)) (saturated_twice m)
+    ∙ saturated_same cuts (suc n) b (stmt_walks cuts n (while_do t b) (saturated m)) (stmt_walks cuts n (while_do t b) m) (saturated_stmt cuts n (while_do t b) m)) (saturated_twice m)
 saturated_branches cuts n (for_to x lo hi b) m = refl
 saturated_branches cuts n (let_in x e b) m = refl
 saturated_branches cuts n (par_stmt k) m = omega arith

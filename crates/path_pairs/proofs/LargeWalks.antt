@@ -4,7 +4,7 @@ use Rattle.std.specs.List.{list_any}
 use Rattle.std.proofs.Common.{sym, ◌∙◌, ap, subst, arith}
 use Rattle.std.proofs.lemmas.Bool.Decides.{nat_tests}
 use Rattle.std.proofs.lemmas.List.Folds.{list_any-append}
-use Rattle.toy_imp.specs.Block.{skip, put, if_then, while_do, for_to, let_in, par_stmt, Block, empty, stmt}
+use Rattle.toy_imp.specs.Block.{skip, put, if_then, while_do, for_to, let_in, par_stmt, empty, stmt}
 use Rattle.toy_imp.specs.Test.{Test}
 use Rattle.toy_imp.specs.Faults.{has_scope}
 use Rattle.rule_terms.specs.Term.{StoreTerm}
@@ -153,8 +153,8 @@ goes_large zero cuts exit ls s next plain h large =
 goes_large (suc k) cuts exit ls s next plain h large =
     large_end (stop_of cuts exit (walk ls s next)) (flat_map (walks k cuts exit) (step (walk ls s next))) ls s
     (λ e.
-      let o : Onward (literals_nodes ls + store_nodes s) (step (walk ls s next)) = walk_onward cuts exit ls s next plain e in
-      let ends : goes_on (suc k) cuts exit o.next ≡ false =
-      first_ends (suc k) cuts exit _ (step (walk ls s next)) o (goes_none (stop_of cuts exit (walk ls s next)) (list_any (goes_on (suc k) cuts exit) (step (walk ls s next))) e h) in
-      first_large k cuts exit _ (step (walk ls s next)) o (goes_large k cuts exit o.next.literals o.next.store o.next.next o.plain ends (omega (arith, large, o.grows))))
+    let o : Onward (literals_nodes ls + store_nodes s) (step (walk ls s next)) = walk_onward cuts exit ls s next plain e in
+    let ends : goes_on (suc k) cuts exit o.next ≡ false =
+    first_ends (suc k) cuts exit _ (step (walk ls s next)) o (goes_none (stop_of cuts exit (walk ls s next)) (list_any (goes_on (suc k) cuts exit) (step (walk ls s next))) e h) in
+    first_large k cuts exit _ (step (walk ls s next)) o (goes_large k cuts exit o.next.literals o.next.store o.next.next o.plain ends (omega (arith, large, o.grows))))
     large

@@ -15,6 +15,7 @@ pub mod OutcomeTruths
 pub mod Passing
 pub mod RestsAt
 pub mod Saturating
+pub mod SideLimits
 pub mod Standing
 pub mod Stopping
 pub mod TrueSteps

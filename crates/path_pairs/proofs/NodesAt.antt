@@ -18,6 +18,7 @@ use Rattle.path_pairs.proofs.Stopping.{or_cases}
 
 mutual
   unfolding value_at values_at value_nodes terms_nodes expr_nodes exprs_nodes
+
   pub nodes_at : (e : Expr) (s : StoreTerm) → value_nodes (value_at e s) ≡ expr_nodes e (store_nodes s)
   nodes_at (num z) s = refl
   nodes_at (at x es) s = ap (λ n. suc (n + store_nodes s)) (nodes_at_all es s)

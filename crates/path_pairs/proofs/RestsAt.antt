@@ -1,7 +1,7 @@
 -- What stands at the points of a block, found by going down to the statement that holds the point.
-use Rattle.std.specs.Prelude.{◌≡◌, ℕ, zero, suc, ◌+◌, ◌-◌, ◌^◌, ◌<◌, ◌≤◌, ◌≢◌, max, Bool, true, false, ◌||◌, List, [], ◌∷◌, ◌++◌, length, refl}
+use Rattle.std.specs.Prelude.{◌≡◌, ℕ, zero, suc, ◌+◌, ◌-◌, ◌^◌, ◌<◌, ◌≤◌, ◌≢◌, max, false, ◌||◌, List, [], ◌∷◌, ◌++◌, length, refl}
 use Rattle.std.proofs.Common.{sym, ◌∙◌, ap, subst, get_or, take, drop, arith}
-use Rattle.std.proofs.lemmas.List.{length-append, append_assoc, append-nil, length-drop, get_or_append_left, get_or-append_right, drop_more, drop_all, take_all}
+use Rattle.std.proofs.lemmas.List.{length-append, append_assoc, append-nil, length-drop, get_or_append_left, get_or-append_right, drop_all, take_all}
 use Rattle.toy_imp.specs.Block.{Stmt, skip, put, if_then, while_do, for_to, let_in, par_stmt, Block, empty, stmt, stmt_depth, block_depth}
 use Rattle.toy_imp.specs.BlockView.{block_of}
 use Rattle.toy_imp.specs.BlockFalls.{stmt_item}
@@ -10,7 +10,7 @@ use Rattle.toy_imp.specs.Test.{Test}
 use Rattle.toy_imp.specs.Faults.{stmt_has_scope, has_scope}
 use Rattle.rule_terms.specs.Counts.{saturated}
 use Rattle.path_pairs.specs.declared.stretch.Stretch as code
-use Rattle.path_pairs.specs.Rests.{Rest, stretch, stmt_rests, block_rests, rests, rest_at}
+use Rattle.path_pairs.specs.Rests.{Rest, stretch, stmt_rests, block_rests, rest_at}
 use Rattle.path_pairs.specs.RestsFound.{Finds, Holds, HoldsInside}
 use Rattle.path_pairs.specs.Stretches.{stretch_of, rest_of}
 use Rattle.path_pairs.proofs.Backwards.{at_place}
@@ -208,16 +208,17 @@ way_inside first p n m b others c s t x h e d k differs =
     let depth : stmt_depth s ≡ suc (block_depth c) = ap stmt_depth e in
     let plain : has_scope (stmt (while_do t c) others) ≡ false = sym (ap (λ y. has_scope (stmt y others)) e) ∙ h.unscoped in
     let body : has_scope c ≡ false = (or_neither (has_scope c) (has_scope others) plain).0 in
-    let low : n < p = omega (arith, h.from, differs) in
-    (record {
-      from = omega (arith, k, low);
-      below = omega (arith, k, count, h.below);
-      numbered = omega (arith, k, count, h.numbered);
-      unscoped = body;
-      smaller = omega (arith, depth, h.smaller);
-    },
-    λ found f. h.finds (rest_of (found ++ x ∷ [])) (subst (λ y. Finds n (stmt y others) p (rest_of (found ++ x ∷ []))) (sym e)
-        (in_while n m p t c others found x (omega (arith, k)) low (omega (arith, count, h.below)) body (d ∙ ap (λ y. stretch n (stmt y others)) e) f)))
+    let low : n < p = omega (arith, h.from, differs) in (
+      record {
+        from = omega (arith, k, low);
+        below = omega (arith, k, count, h.below);
+        numbered = omega (arith, k, count, h.numbered);
+        unscoped = body;
+        smaller = omega (arith, depth, h.smaller);
+      },
+      λ found f. h.finds (rest_of (found ++ x ∷ [])) (subst (λ y. Finds n (stmt y others) p (rest_of (found ++ x ∷ []))) (sym e)
+          (in_while n m p t c others found x (omega (arith, k)) low (omega (arith, count, h.below)) body (d ∙ ap (λ y. stretch n (stmt y others)) e) f)),
+    )
 
 -- of an `if`
 record Sides (n : ℕ) (s : Stmt) (others c d : Block) : Type 0 where
@@ -243,30 +244,32 @@ sides_of n s others c d t e h =
 pub way_then : (first p n : ℕ) (b others c d : Block) (s : Stmt) (t : Test) (x : code.Stretch) → Holds first b p n s others → s ≡ if_then t c d
     → stretch_of x ≡ stretch (n + (point_count c + point_count d)) others → p < n + point_count c → Leads first b p n c x
 way_then first p n b others c d s t x h e place high =
-    let sides : Sides n s others c d = sides_of n s others c d t e h.unscoped in
-    (record {
-      from = h.from;
-      below = high;
-      numbered = omega (arith, sides.count, h.numbered);
-      unscoped = sides.first_plain;
-      smaller = omega (arith, sides.first_depth, h.smaller);
-    },
-    λ found f. h.finds (rest_of (found ++ x ∷ [])) (subst (λ y. Finds n (stmt y others) p (rest_of (found ++ x ∷ []))) (sym e)
-        (in_then n p t c d others found x h.from high sides.first_plain sides.second_plain place f)))
+    let sides : Sides n s others c d = sides_of n s others c d t e h.unscoped in (
+      record {
+        from = h.from;
+        below = high;
+        numbered = omega (arith, sides.count, h.numbered);
+        unscoped = sides.first_plain;
+        smaller = omega (arith, sides.first_depth, h.smaller);
+      },
+      λ found f. h.finds (rest_of (found ++ x ∷ [])) (subst (λ y. Finds n (stmt y others) p (rest_of (found ++ x ∷ []))) (sym e)
+          (in_then n p t c d others found x h.from high sides.first_plain sides.second_plain place f)),
+    )
 
 pub way_else : (first p n m : ℕ) (b others c d : Block) (s : Stmt) (t : Test) (x : code.Stretch) → Holds first b p n s others → s ≡ if_then t c d
     → stretch_of x ≡ stretch (n + (point_count c + point_count d)) others → m ≡ n + point_count c → m ≤ p → Leads first b p m d x
 way_else first p n m b others c d s t x h e place k low =
-    let sides : Sides n s others c d = sides_of n s others c d t e h.unscoped in
-    (record {
-      from = low;
-      below = omega (arith, k, sides.count, h.below);
-      numbered = omega (arith, k, sides.count, h.numbered);
-      unscoped = sides.second_plain;
-      smaller = omega (arith, sides.second_depth, h.smaller);
-    },
-    λ found f. h.finds (rest_of (found ++ x ∷ [])) (subst (λ y. Finds n (stmt y others) p (rest_of (found ++ x ∷ []))) (sym e)
-        (in_else n m p t c d others found x k low (omega (arith, sides.count, h.below)) sides.first_plain sides.second_plain place f)))
+    let sides : Sides n s others c d = sides_of n s others c d t e h.unscoped in (
+      record {
+        from = low;
+        below = omega (arith, k, sides.count, h.below);
+        numbered = omega (arith, k, sides.count, h.numbered);
+        unscoped = sides.second_plain;
+        smaller = omega (arith, sides.second_depth, h.smaller);
+      },
+      λ found f. h.finds (rest_of (found ++ x ∷ [])) (subst (λ y. Finds n (stmt y others) p (rest_of (found ++ x ∷ []))) (sym e)
+          (in_else n m p t c d others found x k low (omega (arith, sides.count, h.below)) sides.first_plain sides.second_plain place f)),
+    )
 
 -- the points of the blocks of the statement that holds a point fit
 pub if_fits : (first p n : ℕ) (b others c d : Block) (s : Stmt) (t : Test) → Holds first b p n s others → s ≡ if_then t c d → first + point_count b < 2 ^ 64

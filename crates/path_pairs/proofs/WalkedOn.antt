@@ -1,5 +1,5 @@
 -- One step of a walk: where it stops, what it goes on to, and what is asked of the statement.
-use Rattle.std.specs.Prelude.{◌≡◌, ◌≢◌, ℕ, zero, suc, ◌+◌, ◌-◌, ◌^◌, ◌<◌, Bool, true, false, ◌&&◌, ◌||◌, List, [], ◌∷◌, ◌++◌, flat_map, Option, None, Some, Result, Ok, Err, refl}
+use Rattle.std.specs.Prelude.{◌≡◌, ◌≢◌, ℕ, zero, suc, ◌+◌, ◌-◌, ◌^◌, ◌<◌, Bool, true, false, ◌&&◌, List, [], ◌∷◌, ◌++◌, flat_map, None, Some, Result, refl}
 use Rattle.std.specs.List.{list_any}
 use Rattle.std.proofs.Common.{sym, ◌∙◌, ap, subst, arith}
 use Rattle.std.proofs.lemmas.Bool.{and_parts}
@@ -7,7 +7,7 @@ use Rattle.std.proofs.lemmas.List.{append-nil}
 use Rattle.toy_imp.specs.declared.name.Name.{Name}
 use Rattle.toy_imp.specs.Expr.{Expr, Exprs}
 use Rattle.toy_imp.specs.Test.{Test}
-use Rattle.toy_imp.specs.Block.{Stmt, skip, put, if_then, while_do, for_to, let_in, par_stmt, Block, empty, stmt}
+use Rattle.toy_imp.specs.Block.{Stmt, skip, put, if_then, while_do, par_stmt, Block, empty, stmt}
 use Rattle.toy_imp.specs.Points.{stmt_count, point_count}
 use Rattle.toy_imp.specs.Faults.{stmt_has_scope, has_scope}
 use Rattle.rule_terms.specs.Term.{StoreTerm}
@@ -27,7 +27,7 @@ use Rattle.path_pairs.specs.Rests.{Rest, stretch}
 use Rattle.path_pairs.specs.Walkable.{IsWalkable, AreWalkable, IsStanding}
 use Rattle.path_pairs.specs.Walks.{Walk, stands, by_each, stmt_step, rest_step, rest_stop, walks, goes_on}
 use Rattle.path_pairs.proofs.Stopping.{or_neither}
-use Rattle.path_pairs.proofs.FromNext.{step_none, step_some}
+use Rattle.path_pairs.proofs.FromNext.{step_some}
 
 -- a walk that stops
 stopped : (k : ℕ) (cuts : List ℕ) (exit : ℕ) (ls : List Literal) (s : StoreTerm) (rest : Rest) (stop : Stop) → rest_stop cuts exit rest ≡ Some stop
@@ -152,19 +152,19 @@ pub par_ends : (k : ℕ) (cuts : List ℕ) (exit n j : ℕ) (a : Stmt) (here beh
 unfolding stmt_step
 par_ends k cuts exit n j a here behind ls s e h =
     (or_neither (goes_on (suc k) cuts exit (stands (ls ++ record { sign = true; atom = Ends (term.run j s) } ∷ []) (term.run j s) behind)) _
-        (sym (ap (λ y. list_any (goes_on (suc k) cuts exit) (stmt_step n y here behind ls s)) e) ∙ h)).0
+    (sym (ap (λ y. list_any (goes_on (suc k) cuts exit) (stmt_step n y here behind ls s)) e) ∙ h)).0
 
 pub par_adds : {A : Type 0} (k : ℕ) (cuts : List ℕ) (exit n j : ℕ) (a : Stmt) (here behind : Rest) (ls : List Literal) (s : StoreTerm) (before after : List Path) (r : Result A PathRefusal)
     → a ≡ par_stmt j
     → Adds (walks k cuts exit (stands (ls ++ record { sign = true; atom = Ends (term.run j s) } ∷ []) (term.run j s) behind)
-        ++ record { literals = ls ++ record { sign = false; atom = Ends (term.run j s) } ∷ []; store = term.run j s; stop = Stuck } ∷ []) before after r
+    ++ record { literals = ls ++ record { sign = false; atom = Ends (term.run j s) } ∷ []; store = term.run j s; stop = Stuck } ∷ []) before after r
     → Adds (flat_map (walks k cuts exit) (stmt_step n a here behind ls s)) before after r
 unfolding stmt_step
 par_adds k cuts exit n j a here behind ls s before after r e h =
     subst (λ f. Adds f before after r)
     (sym (ap (λ y. flat_map (walks k cuts exit) (stmt_step n y here behind ls s)) e
-        ∙ ap (λ f. walks k cuts exit (stands (ls ++ record { sign = true; atom = Ends (term.run j s) } ∷ []) (term.run j s) behind) ++ (f ++ []))
-        (stuck_walks k cuts exit (ls ++ record { sign = false; atom = Ends (term.run j s) } ∷ []) (term.run j s)))) h
+    ∙ ap (λ f. walks k cuts exit (stands (ls ++ record { sign = true; atom = Ends (term.run j s) } ∷ []) (term.run j s) behind) ++ (f ++ []))
+    (stuck_walks k cuts exit (ls ++ record { sign = false; atom = Ends (term.run j s) } ∷ []) (term.run j s)))) h
 
 -- what is asked of the parts of a statement
 opened : (n : ℕ) (a : Stmt) → IsWalkable n (stmt a empty) → stmt_is_open a ≡ true

@@ -1,5 +1,5 @@
 -- What a call that walks answers: the paths in order, or the first limit that they pass. No memory is a free answer.
-use Rattle.std.specs.Prelude.{ℕ, ◌≡◌, ◌+◌, nat_lt, true, false, List, ◌++◌, None, Some, Result, Ok, Err}
+use Rattle.std.specs.Prelude.{ℕ, ◌≡◌, nat_lt, true, false, List, ◌++◌, None, Some, Result, Ok, Err}
 use Rattle.std.specs.List.{list_any}
 use Rattle.toy_imp.specs.declared.rule.Rule.{Rule}
 use Rattle.rule_terms.specs.declared.path.Path.{Path}
@@ -25,3 +25,9 @@ abbrev pub Adds : {A : Type 0} → List Path → List Path → List Path → Res
 Adds found before after (Ok u) = (after ≡ before ++ found) × (list_any is_large_path found ≡ false)
 Adds found before after (Err (Limit what)) = (what ≡ PathNodes) × (list_any is_large_path found ≡ true)
 Adds found before after (Err NoMemory) = Unit {0}
+
+-- Paths are built; or one of them is too large.
+abbrev pub Builds : List Path → Result (List Path) PathRefusal → Type 0
+Builds found (Ok all) = (all ≡ found) × (list_any is_large_path found ≡ false)
+Builds found (Err (Limit what)) = (what ≡ PathNodes) × (list_any is_large_path found ≡ true)
+Builds found (Err NoMemory) = Unit {0}

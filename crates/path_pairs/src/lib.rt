@@ -11,13 +11,15 @@ mod locations;
 mod met;
 mod node_counts;
 mod refusal;
+mod side_paths;
 mod stretch;
 mod test_outcome;
-mod walking;
 #[cfg(test)]
 mod tests;
+mod walking;
 
 pub use counting::{OutcomeCounts, outcome_counts};
 pub use cut_points::{CutPoints, LimitMark, Side};
 pub use refusal::PathRefusal;
+pub use side_paths::paths;
 pub use test_outcome::outcomes;

@@ -8,7 +8,10 @@ ghost use Rattle.path_pairs.specs.Along.{stmt_steps, stmt_walks, rest_steps, res
 ghost use Rattle.path_pairs.specs.Stretches.{rest_of};
 ghost use Rattle.path_pairs.specs.Walkable.{AreWalkable};
 
-use crate::along::{block_points, by_outcomes, most_steps, one_more, stmt_steps, stmt_walks, steps_along, walk_count, walks_along};
+use crate::along::{
+    block_points, by_outcomes, most_steps, one_more, steps_along, stmt_steps, stmt_walks,
+    walk_count, walks_along,
+};
 use crate::stretch::{Stretch, stands_next};
 use toy_imp::{Stmt, StmtNode};
 

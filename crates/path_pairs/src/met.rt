@@ -15,7 +15,9 @@ use crate::cut_points::Side;
 use crate::node_counts::{expr_nodes, exprs_nodes};
 use crate::refusal::PathRefusal;
 use crate::test_outcome::joined;
-use rule_terms::{Atom, LimitKind, Literal, Place, StoreTerm, copy_literals, number_of, value_at, values_at};
+use rule_terms::{
+    Atom, LimitKind, Literal, Place, StoreTerm, copy_literals, number_of, value_at, values_at,
+};
 use sqlite_items::Items;
 use std::alloc::Global;
 use toy_imp::{Expr, Name, NoMemory};

@@ -45,7 +45,11 @@ fn stmt_stop(cuts: &[u32], n: u64, s: &Stmt) -> Option<Stop>
         StmtNode::For(_, _, _, _) => return None,
         StmtNode::Let(_, _, _) => return None,
     };
-    if stops { Some(Stop::At(n as u32)) } else { None }
+    if stops {
+        Some(Stop::At(n as u32))
+    } else {
+        None
+    }
 }
 
 // Where a walk stops before its next step, if it does.
@@ -64,7 +68,9 @@ fn add_path(all: &mut Items<Path>, met: Met, stop: Stop) -> Result<(), PathRefus
     ensures { Adds (record { literals = met.literals; store = met.store; stop = stop } ∷ []) all.old all.new result }
 {
     let Met {
-        literals, store, ..
+        literals,
+        store,
+        ..
     } = met;
     all.push(Path {
         literals,
@@ -85,12 +91,7 @@ fn inside<'a>(first: u64, b: &'a Block) -> Stretch<'a>
 }
 
 // Adds the path of a walk that is stuck in a statement parameter.
-fn add_stuck(
-    alloc: Global,
-    met: &Met,
-    k: u32,
-    all: &mut Items<Path>,
-) -> Result<(), PathRefusal>
+fn add_stuck(alloc: Global, met: &Met, k: u32, all: &mut Items<Path>) -> Result<(), PathRefusal>
     ensures { Adds (record { literals = met.now.literals ++ record { sign = false; atom = Ends (run k met.now.store) } ∷ []; store = run k met.now.store; stop = Stuck } ∷ []) all.old all.new result }
 {
     match met.run(alloc, k, false) {

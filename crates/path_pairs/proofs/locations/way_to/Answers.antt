@@ -1,5 +1,4 @@
 use Rattle.std.proofs.Common.{◌≡◌, ◌+◌, ◌^◌, ◌<◌, sym, ◌∙◌, ap, arith}
-use Rattle.toy_imp.specs.Block.{if_then, while_do, par_stmt}
 use Rattle.toy_imp.specs.BlockView.{stmt_of, block_of}
 use Rattle.toy_imp.specs.Points.{point_count}
 use Rattle.path_pairs.specs.declared.stretch.Stretch as code

@@ -7,9 +7,17 @@ use Rattle.path_pairs.proofs.NodesAt.{run_nodes, end_nodes, with_end_is}
 use Rattle.path_pairs.proofs.met.Met.run.Goals as goal
 
 pub returns-then-nodes-gt-MOST_NODES-clause-err : goal.returns-then-nodes-gt-MOST_NODES-clause-err
-returns-then-nodes-gt-MOST_NODES-clause-err c =
-    (refl, large_test _ (omega (arith, end_nodes c.args.self.now.literals c.args.ends c.args.k c.args.self.now.store, run_nodes c.args.k c.args.self.now.store, c.args.self.now.literals_counted,
-        c.args.self.now.store_counted, c.if-nodes-gt-MOST_NODES.true)))
+returns-then-nodes-gt-MOST_NODES-clause-err c = (
+  refl,
+  large_test _ (omega (
+    arith,
+    end_nodes c.args.self.now.literals c.args.ends c.args.k c.args.self.now.store,
+    run_nodes c.args.k c.args.self.now.store,
+    c.args.self.now.literals_counted,
+    c.args.self.now.store_counted,
+    c.if-nodes-gt-MOST_NODES.true,
+  )),
+)
 
 pub invariant_of-result : goal.invariant_of-result
 invariant_of-result c =
