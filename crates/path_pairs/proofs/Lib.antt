@@ -2,7 +2,6 @@ pub mod Adding
 pub mod Backwards
 pub mod Capped
 pub mod Comings
-pub mod Examples
 pub mod FromNext
 pub mod FromPoints
 pub mod Joining

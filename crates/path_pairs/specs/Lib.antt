@@ -1,6 +1,5 @@
 pub mod Along
 pub mod Comes
-pub mod Cuts
 pub mod NodeCounts
 pub mod Open
 pub mod OutcomeCounts

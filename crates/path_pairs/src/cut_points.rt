@@ -1,7 +1,6 @@
-//! Cut points of the two sides of a rule, after Floyd, with the pairs that a proof by simulation relates.
-//! `specs/Cuts.antt` says which they are.
+//! The sides of a rule, and where walks over them stop: cut points, after Floyd, with the pairs that a proof by
+//! simulation relates.
 
-use rule_terms::LimitKind;
 use sqlite_items::Items;
 
 /// A side of a rule.
@@ -21,12 +20,4 @@ pub struct CutPoints {
     /// The entries: a point of the left side and one of the right side each. The first is the pair of
     /// starts, the second the pair of exits.
     pub pairs: Items<(u32, u32)>,
-}
-
-/// A limit that is passed, and where.
-#[derive(Clone, Copy, Debug, PartialEq, Eq)]
-pub struct LimitMark {
-    pub what: LimitKind,
-    /// The number of the entry, from 0.
-    pub entry: u32,
 }

@@ -1,5 +1,5 @@
 //! Walks over the sides of a rule between cut points: the paths along which a proof by simulation goes.
-//! `specs/Paths.antt` says which paths there are, `specs/Cuts.antt` which points and pairs are cut.
+//! `specs/Paths.antt` says which paths there are, `specs/PathLaws.antt` along which of them a run goes.
 #![tactic(auto)]
 
 mod along;
@@ -18,8 +18,9 @@ mod test_outcome;
 mod tests;
 mod walking;
 
+pub use along::block_points;
 pub use counting::{OutcomeCounts, outcome_counts};
-pub use cut_points::{CutPoints, LimitMark, Side};
+pub use cut_points::{CutPoints, Side};
 pub use refusal::PathRefusal;
 pub use side_paths::paths;
 pub use test_outcome::outcomes;

@@ -14,7 +14,7 @@ use Rattle.rule_terms.specs.declared.path.Stop.TheVariants.{At}
 use Rattle.rule_terms.specs.declared.tally.LimitKind.{LimitKind}
 use Rattle.rule_terms.specs.declared.tally.LimitKind.TheVariants.{Pairs, Entries}
 use Rattle.path_pairs.specs.declared.cut_points.CutPoints.{CutPoints}
-use Rattle.path_pairs.specs.declared.cut_points.LimitMark.{LimitMark}
+use Rattle.entry_pairs.specs.declared.refusal.LimitMark.{LimitMark}
 use Rattle.path_pairs.specs.declared.cut_points.Side.TheVariants.{Left, Right}
 use Rattle.path_pairs.specs.Rests.{Rest, stretch, rest_at}
 use Rattle.path_pairs.specs.Paths.{paths, path_limit}

@@ -13,11 +13,11 @@ use Rattle.rule_terms.specs.declared.obligation.Atom.{Atom}
 use Rattle.rule_terms.specs.declared.obligation.Atom.TheVariants.{Ends, Holds}
 use Rattle.rule_terms.specs.declared.path.Path.{Path}
 use Rattle.rule_terms.specs.declared.path.Stop.TheVariants.{At, Stuck}
-use Rattle.rule_terms.specs.declared.tally.LimitKind.TheVariants.{PathSteps, Paths, Pairs}
+use Rattle.rule_terms.specs.declared.tally.LimitKind.TheVariants.{PathSteps, Paths, Pairs, Entries}
 use Rattle.path_pairs.specs.Outcomes.{outcomes}
 use Rattle.path_pairs.specs.Walks.{stmt_step, walks, goes_on}
 use Rattle.path_pairs.specs.Paths.{side_paths, has_long_walk}
-use Rattle.path_pairs.specs.Cuts.{mark, walked, cuts}
+use Rattle.entry_pairs.specs.Cuts.{mark, walked, cuts}
 
 -- the test parameter 0 and the statement parameter 1
 abbrev b : Test
@@ -71,6 +71,21 @@ cut_loop : cuts (rule_of (Listed ((1, 1) ∷ [])) idle_loop idle_loop)
     ≡ Ok (record { left = 0 ∷ 1 ∷ 2 ∷ []; right = 0 ∷ 1 ∷ 2 ∷ []; pairs = (0, 0) ∷ (2, 2) ∷ (1, 1) ∷ [] })
 unfolding outcomes stmt_step walks goes_on side_paths has_long_walk walked store_nodes atom_nodes
 cut_loop = refl
+
+-- statement parameters of two numbers are no entry, in whatever order they stand
+crossed : cuts (rule_of Default (stmt s (stmt (par_stmt 2) empty)) (stmt (par_stmt 2) (stmt s empty)))
+    ≡ Ok (record { left = 0 ∷ 1 ∷ 2 ∷ 3 ∷ []; right = 0 ∷ 1 ∷ 2 ∷ 3 ∷ []; pairs = (0, 0) ∷ (3, 3) ∷ [] })
+unfolding outcomes stmt_step walks goes_on side_paths has_long_walk walked store_nodes atom_nodes
+crossed = refl
+
+-- n loops one after another: eight of them on both sides are alike in 64 pairs, which with the ends are too many
+abbrev loops : ℕ → Block
+loops zero = empty
+loops (suc n) = stmt (while_do b (stmt skip empty)) (loops n)
+
+eight_loops : cuts (rule_of Default (loops 8) (loops 8)) ≡ Err (mark 49 Entries)
+unfolding outcomes stmt_step walks goes_on side_paths has_long_walk walked store_nodes atom_nodes
+eight_loops = refl
 
 -- A walk from the start stops after no step where a cut point stands there ..
 from_start : side_paths (stmt s empty) (0 ∷ 1 ∷ 2 ∷ []) left_store 0 ≡ record { literals = []; store = left_store; stop = At 1 } ∷ []

@@ -1,0 +1,3 @@
+pub mod CutAnswers
+pub mod Cuts
+pub mod PointKinds
