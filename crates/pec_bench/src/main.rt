@@ -3,6 +3,7 @@
 #![tactic(auto)]
 
 mod diff;
+mod refutes;
 mod rows;
 mod terms;
 mod texts;
@@ -31,6 +32,10 @@ fn main(rt: HostRuntime) -> ExitCode {
         [name] if name.as_str() == "rules" => ExitCode::from(texts::rule(&rt)),
         [name] if name.as_str() == "diff" => ExitCode::from(status(&rt, diff::run(&rt))),
         [name] if name.as_str() == "rows" => ExitCode::from(status(&rt, rows::run(&rt))),
+        [name, shape, n, times] if name.as_str() == "refutes" => ExitCode::from(status(
+            &rt,
+            refutes::run(&rt, shape.as_str(), n.as_str(), times.as_str()),
+        )),
         [name, what, times] if name.as_str() == "terms" => ExitCode::from(status(
             &rt,
             terms::run(&rt, what.as_str(), times.as_str()),

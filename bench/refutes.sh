@@ -1,0 +1,53 @@
+#!/usr/bin/env bash
+# Times a leaf of 4,000 steps against one of 1,000, and says how many steps a second `refutes` looks at; where metamath is
+# installed, beside the steps a second that it verifies of theorems of as many steps.
+set -euo pipefail
+# shellcheck source=bench/timing.sh
+source "$(dirname "${BASH_SOURCE[0]}")/timing.sh"
+folder=$(mktemp -d)
+trap 'rm -rf "$folder"' EXIT
+
+# looks STEPS TIMES: the seconds of so many looks at a leaf of so many steps.
+looks() {
+  processor_seconds 7 1 /dev/null "${bench:?}" refutes leaf "$1" "$2"
+}
+
+# theorems COUNT STEPS: so many theorems, each of so many uses of the rule that an equality may be exchanged.
+theorems() {
+  awk -v count="$1" -v steps="$2" '
+    BEGIN {
+      print "$c |- term = L R $."
+      print "$v x y $."
+      print "tx $f term x $. ty $f term y $."
+      print "tl $a term L $. tr $a term R $."
+      print "known $a |- L = R $."
+      print "${ given $e |- x = y $. flip $a |- y = x $. $}"
+      for (k = 1; k <= count; k++) {
+        printf "th%d $p |- L = R $=\n", k
+        for (i = steps; i >= 1; i--) printf i % 2 ? "tl tr\n" : "tr tl\n"
+        print "known"
+        for (i = 1; i <= steps; i++) print "flip"
+        print "$."
+      }
+    }'
+}
+
+# verifies FILE: the seconds in which metamath reads the file and verifies all that is in it, which it must.
+verifies() {
+  metamath "read \"$1\"" "verify proof *" exit | grep -q "All proofs in the database were verified" || return 1
+  processor_seconds 3 1 /dev/null metamath "read \"$1\"" "verify proof *" exit
+}
+
+small=$(looks 1000 4000)
+large=$(looks 4000 4000)
+status=0
+ratio "4,000 looks at a leaf of 4,000 steps, against one of 1,000" "$large" "$small" 6 || status=1
+awk -v large="$large" 'BEGIN { printf "%.0f steps a second\n", 4000 * 4000 / large }'
+if command -v metamath > /dev/null; then
+  theorems 50 4000 > "$folder/theorems.mm"
+  took=$(verifies "$folder/theorems.mm")
+  awk -v took="$took" -v large="$large" 'BEGIN {
+    printf "metamath, 50 theorems of 4,000 steps: %.4f s, %.0f steps a second; refutes is %.1f times as fast\n", took, 50 * 4000 / took, (4000 * 4000 / large) / (50 * 4000 / took)
+  }'
+fi
+exit "$status"
