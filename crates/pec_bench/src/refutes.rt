@@ -19,8 +19,12 @@ pub fn run(rt: &(impl Print + AllocGlobal), shape: &str, n: &str, times: &str) -
 
 fn counted(alloc: Global, shape: &str, n: u32, times: u32) -> Result<u32> {
     let ob = obligation(alloc)?;
+    asked(alloc, &ob, shape, n, times)
+}
+
+fn asked(alloc: Global, ob: &Obligation, shape: &str, n: u32, times: u32) -> Result<u32> {
     let proof = refutation(alloc, shape, n)?;
-    Ok(answers(&ob, &proof, times))
+    Ok(answers(ob, &proof, times))
 }
 
 fn answers(ob: &Obligation, proof: &Refutation, times: u32) -> u32 {

@@ -45,13 +45,21 @@ fn leaf(alloc: Global, known: u32) -> Result<Refutation, Fail> {
     Ok(Refutation::Leaf(steps))
 }
 
+fn is_right(alloc: Global, ob: &Obligation, known: u32) -> Result<bool, Fail> {
+    let proof = leaf(alloc, known)?;
+    Ok(refutes(ob, &proof))
+}
+
+fn answer(alloc: Global, known: u32) -> Result<bool, Fail> {
+    let ob = obligation(alloc)?;
+    is_right(alloc, &ob, known)
+}
+
 #[test]
 fn known_goal_is_refuted(rt: HostRuntime) -> Result<(), Fail> {
-    let alloc = rt.alloc();
-    let ob = obligation(alloc)?;
-    let right = leaf(alloc, 0)?;
-    assert!(rt; refutes(&ob, &right));
-    let wrong = leaf(alloc, 1)?;
-    assert!(rt; !refutes(&ob, &wrong));
+    let right = answer(rt.alloc(), 0)?;
+    assert!(rt; right);
+    let wrong = answer(rt.alloc(), 1)?;
+    assert!(rt; !wrong);
     Ok(())
 }
