@@ -5,5 +5,4 @@ pub mod Inputs
 pub mod OneContent
 pub mod OneInput
 pub mod SkipSides
-pub mod Texts
 pub mod Validity
