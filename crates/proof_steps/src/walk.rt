@@ -17,7 +17,7 @@ use rule_terms::{Literal, Obligation};
 /// How many splits stand open in one piece of a walk.
 const OPEN: usize = 256;
 
-/// Whether the refutation shows that the obligation holds. It takes no memory, and a stack of some 20 bytes for each split
+/// Whether the refutation shows that the obligation holds. It takes no memory, and a stack of some 25 bytes for each split
 /// on the way to a leaf.
 #[tactic(auto, unfolding(crate::specs::Refutes::refutes))]
 pub fn refutes(ob: &Obligation, proof: &Refutation) -> bool
