@@ -24,6 +24,11 @@ use sqlite_items::Items;
 use std::alloc::Global;
 use toy_imp::{Block, Rule};
 
+// The most steps of a walk, and the most walks from a point.
+const MOST_STEPS: u64 = 64;
+
+const MOST_PATHS: u64 = 512;
+
 // The statements of a side.
 fn side_block(rule: &Rule, side: Side) -> &Block
     ensures { result.now ≡ side_of rule.now side }
@@ -114,11 +119,11 @@ fn limited(
 {
     let cut = side_cuts(cuts, side);
     let steps = steps_from(cut, from, rest);
-    if steps > 64 {
+    if steps > MOST_STEPS {
         return Err(PathRefusal::Limit(LimitKind::PathSteps));
     }
     let number = number_from(cut, from, rest);
-    if number > 512 {
+    if number > MOST_PATHS {
         return Err(PathRefusal::Limit(LimitKind::Paths));
     }
     let met = Met::start(alloc, side);
