@@ -3,6 +3,7 @@
 #![tactic(auto)]
 
 mod diff;
+mod paths;
 mod refutes;
 mod rows;
 mod terms;
@@ -32,6 +33,9 @@ fn main(rt: HostRuntime) -> ExitCode {
         [name] if name.as_str() == "rules" => ExitCode::from(texts::rule(&rt)),
         [name] if name.as_str() == "diff" => ExitCode::from(status(&rt, diff::run(&rt))),
         [name] if name.as_str() == "rows" => ExitCode::from(status(&rt, rows::run(&rt))),
+        [name, times] if name.as_str() == "paths" => {
+            ExitCode::from(status(&rt, paths::run(&rt, times.as_str())))
+        }
         [name, shape, n, times] if name.as_str() == "refutes" => ExitCode::from(status(
             &rt,
             refutes::run(&rt, shape.as_str(), n.as_str(), times.as_str()),

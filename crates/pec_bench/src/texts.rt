@@ -33,7 +33,7 @@ fn done<T: Drop>(read: Result<T, ReadRule>) -> Result<(), ReadRule> {
 }
 
 /// Standard input as the body of a section, or the status of a read that failed.
-fn section(rt: &HostRuntime, kind: SectionKind) -> Result<Section, u8> {
+pub fn section(rt: &HostRuntime, kind: SectionKind) -> Result<Section, u8> {
     let mut input = StdSource::new(rt.stdin());
     let Ok(bytes) = read_all(rt.alloc(), &mut input, MOST) else {
         return Err(4);
