@@ -5,8 +5,6 @@ set -euo pipefail
 timed=pec
 # shellcheck source=bench/timing.sh
 source "$(dirname "${BASH_SOURCE[0]}")/timing.sh"
-folder=$(mktemp -d)
-trap 'rm -rf "$folder"' EXIT
 
 # written SIZE NAME=1: a seeded text of at most SIZE bytes, of sections or in C.
 written() {
@@ -23,11 +21,5 @@ for text in large small; do
   cmp "$folder/$text.printed" "$folder/$text.again"
 done
 
-ratio "1 MiB of sections printed against 256 KiB" \
-  "$(processor_seconds 25 2 "$folder/large" "$bench" print)" "$(processor_seconds 25 2 "$folder/small" "$bench" print)" 5
-if command -v clang-format > /dev/null; then
-  ratio "1 MiB of sections printed against clang-format on as much C" \
-    "$(seconds 1 "$folder/large" "$bench" print)" "$(seconds 1 "$folder/large.c" clang-format --assume-filename=large.c)" 0.2
-else
-  echo "clang-format is missing"
-fi
+four_times "1 MiB of sections printed against 256 KiB" 25 2 "$bench" print
+beside_clang_format "1 MiB of sections printed" 0.2 "$bench" print

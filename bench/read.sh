@@ -4,8 +4,6 @@
 set -euo pipefail
 # shellcheck source=bench/timing.sh
 source "$(dirname "${BASH_SOURCE[0]}")/timing.sh"
-folder=$(mktemp -d)
-trap 'rm -rf "$folder"' EXIT
 
 # program SIZE [C]: a seeded program of at most SIZE bytes, or with 1 as the second word a like one in C.
 program() {
@@ -23,11 +21,5 @@ for text in large small; do
   fi
 done
 
-ratio "a program of 1 MiB against 256 KiB" \
-  "$(processor_seconds 25 2 "$folder/large" "$bench" read)" "$(processor_seconds 25 2 "$folder/small" "$bench" read)" 5
-if command -v clang-format > /dev/null; then
-  ratio "a program of 1 MiB against clang-format on as much C" \
-    "$(seconds 1 "$folder/large" "$bench" read)" "$(seconds 1 "$folder/large.c" clang-format --assume-filename=large.c)" 1
-else
-  echo "clang-format is missing"
-fi
+four_times "a program of 1 MiB against 256 KiB" 25 2 "$bench" read
+beside_clang_format "a program of 1 MiB" 1 "$bench" read

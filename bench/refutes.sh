@@ -4,8 +4,6 @@
 set -euo pipefail
 # shellcheck source=bench/timing.sh
 source "$(dirname "${BASH_SOURCE[0]}")/timing.sh"
-folder=$(mktemp -d)
-trap 'rm -rf "$folder"' EXIT
 
 # looks STEPS TIMES: the seconds of so many looks at a leaf of so many steps.
 looks() {

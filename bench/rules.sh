@@ -4,8 +4,6 @@
 set -euo pipefail
 # shellcheck source=bench/timing.sh
 source "$(dirname "${BASH_SOURCE[0]}")/timing.sh"
-folder=$(mktemp -d)
-trap 'rm -rf "$folder"' EXIT
 
 # declared SIZE NAMES: a rule whose declarations are SIZE bytes, with so many different names, told in turn again and again.
 declared() {
@@ -33,7 +31,5 @@ for shape in different repeated; do
     different) answers "$folder/large" 'refused: ill formed F4' ;;
     repeated) answers "$folder/large" 'refused: ill formed F1' ;;
   esac
-  ratio "rules of 1 MiB of names against 256 KiB, $shape" \
-    "$(processor_seconds 25 2 "$folder/large" "${bench:?}" rules)" \
-    "$(processor_seconds 25 2 "$folder/small" "${bench:?}" rules)" 5
+  four_times "rules of 1 MiB of names against 256 KiB, $shape" 25 2 "$bench" rules
 done

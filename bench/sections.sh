@@ -3,8 +3,6 @@
 set -euo pipefail
 # shellcheck source=bench/timing.sh
 source "$(dirname "${BASH_SOURCE[0]}")/timing.sh"
-folder=$(mktemp -d)
-trap 'rm -rf "$folder"' EXIT
 
 # repeated TEXT SIZE: the text again and again, cut at that many bytes.
 repeated() {
@@ -23,7 +21,5 @@ one_section() {
 for shape in one_line_sections line_feeds one_section; do
   "$shape" 1048576 > "$folder/large"
   "$shape" 262144 > "$folder/small"
-  ratio "sections of 1 MiB against 256 KiB, $shape" \
-    "$(processor_seconds 5 20 "$folder/large" "${bench:?}" sections)" \
-    "$(processor_seconds 5 20 "$folder/small" "$bench" sections)" 5
+  four_times "sections of 1 MiB against 256 KiB, $shape" 5 20 "${bench:?}" sections
 done

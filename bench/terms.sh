@@ -4,8 +4,6 @@
 set -euo pipefail
 # shellcheck source=bench/timing.sh
 source "$(dirname "${BASH_SOURCE[0]}")/timing.sh"
-folder=$(mktemp -d)
-trap 'rm -rf "$folder"' EXIT
 
 # obligation NODES STORES NAMES: literals of reads at stores that are runs behind runs, up to that many nodes.
 obligation() {

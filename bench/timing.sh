@@ -1,5 +1,9 @@
 #!/usr/bin/env bash
-# For the other scripts of bench/: how long a command takes, and the ratio of two times.
+# For the other scripts of bench/: how long a command takes, the ratio of two times, and a folder for texts.
+
+# It goes when the script ends.
+folder=$(mktemp -d)
+trap 'rm -rf "$folder"' EXIT
 
 # seconds TIMES INPUT COMMAND..: the seconds that TIMES runs of the command take, INPUT as standard input.
 seconds() {
@@ -25,6 +29,28 @@ processor_seconds() {
 ratio() {
   awk -v name="$1" -v a="$2" -v b="$3" -v most="$4" \
     'BEGIN { r = a / b; printf "%s: %.4f s against %.4f s, ratio %.2f (below %s)\n", name, a, b, r, most; exit r >= most }'
+}
+
+# four_times NAME ROUNDS TIMES COMMAND..: the processor time on $folder/large against that on $folder/small, a fourth of it. Where
+# time is linear the ratio is 4; it fails at 5 and above.
+four_times() {
+  local name=$1 rounds=$2 times=$3
+  shift 3
+  ratio "$name" "$(processor_seconds "$rounds" "$times" "$folder/large" "$@")" \
+    "$(processor_seconds "$rounds" "$times" "$folder/small" "$@")" 5
+}
+
+# beside_clang_format NAME MOST COMMAND..: the time on $folder/large against that of `clang-format`, where it is installed, on
+# $folder/large.c, as much C.
+beside_clang_format() {
+  local name=$1 most=$2
+  shift 2
+  if command -v clang-format > /dev/null; then
+    ratio "$name against clang-format on as much C" "$(seconds 1 "$folder/large" "$@")" \
+      "$(seconds 1 "$folder/large.c" clang-format --assume-filename=large.c)" "$most"
+  else
+    echo "clang-format is missing"
+  fi
 }
 
 # The proved program that is timed, which `rt run` in its crate builds: `pec_bench`, unless the script names another one.

@@ -8,8 +8,6 @@ mod entries;
 mod entry_search;
 mod point_kinds;
 mod refusal;
-#[cfg(test)]
-mod tests;
 
 pub use entry_search::cuts;
 pub use refusal::{CutsRefusal, LimitMark};

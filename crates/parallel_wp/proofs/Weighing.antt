@@ -1,6 +1,6 @@
 -- Weights are the nodes with stores in place of L and R, and it does not matter for a count that stands still whether the
 -- nodes of these stores stood still before.
-use Rattle.std.proofs.Common.{◌≡◌, ℕ, ◌+◌, ◌-◌, suc, List, [], ◌∷◌, ◌++◌, Option, None, Some, refl, ap, arith, option_map}
+use Rattle.std.proofs.Common.{◌≡◌, ℕ, ◌+◌, suc, List, [], ◌∷◌, ◌++◌, Option, None, Some, refl, ap, arith, option_map}
 use Rattle.rule_terms.specs.Term.{StoreTerm, left_store, right_store, put, run, ValueTerm, num, get, ev, add, sub, mul, ValueTerms, no_terms, term}
 use Rattle.rule_terms.specs.Counts.{saturated, store_nodes, atom_nodes, literals_nodes, gives_nodes, conjunct_nodes}
 use Rattle.rule_terms.specs.Substitute.{atom_at, literal_at, literals_at}

@@ -8,8 +8,6 @@ mod expr;
 pub mod laws;
 mod standing;
 mod test;
-#[cfg(test)]
-mod tests;
 
 pub use block::fill;
 pub use expr::{fill_expr, fill_exprs};

@@ -1,6 +1,6 @@
 //! Instances of rules, from the texts of what stands for each parameter.
 
-use crate::runs::program;
+use program_examples::program;
 use sqlite_items::Items;
 use std::alloc::Global;
 use toy_imp::{Filling, Instance, Kind, Name, Param, Stmt, StmtNode};

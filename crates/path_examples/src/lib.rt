@@ -1,9 +1,13 @@
-//! Worked examples of paths: programs run along the paths of a rule's left side, from cut point to cut
-//! point, beside the same programs run step by step. It holds tests alone.
+//! Worked examples of paths: outcomes, entries, and programs run along the paths of a rule's left side, from cut
+//! point to cut point, beside the same programs run step by step. It holds tests alone.
 #![tactic(auto)]
 
 #[cfg(test)]
+mod entry_tests;
+#[cfg(test)]
 mod fillings;
+#[cfg(test)]
+mod outcome_tests;
 #[cfg(test)]
 mod runs;
 #[cfg(test)]

@@ -1,13 +1,10 @@
-//! Ten rules with programs for their parameters: a run along the paths of the left side and a run of the
+//! Eleven rules with programs for their parameters: a run along the paths of the left side and a run of the
 //! filled left side come to one store, or neither ends.
 
 use crate::walking::{Outcome, run_along, run_whole};
-use pec_text::{Section, SectionKind};
-use rule_reader::read_rule;
-use sqlite_items::Items;
+use program_examples::rule;
 use std::alloc::Global;
 use std::test::Fail;
-use toy_imp::Rule;
 
 // A rule's body; what stands for its parameters; the store before; and the store that the run ends in.
 const ROWS: &str = "\
@@ -22,15 +19,6 @@ name X; test B; left { while B { X := X + 1; } } right { } => i & i < 3 or i == 
 name X; stmt S; left { while X < 3 { S; X := X + 1; while X == 2 { X := X + 2; } } } right { } => i & t[i] := t[i] + i; => i := 1;  => i := 4; t[1] := 1;
 stmt S T; left { S; T; } right { T; S; } => a[1] := 2; & while a[1] == 2 { } =>  => stuck
 expr E; left { while 0 - E < E { skip; } } right { } => n => n := -3;  => n := -3;";
-
-fn rule(alloc: Global, body: &str) -> Option<Rule> {
-    let section = Section {
-        kind: SectionKind::Rule,
-        title: Items::from_slice(alloc, b"r").ok()?,
-        body: Items::from_slice(alloc, body.as_bytes()).ok()?,
-    };
-    read_rule(alloc, &section).ok()
-}
 
 fn parts<'a>(alloc: Global, row: &'a str) -> Option<Vec<&'a str>> {
     row.split(" => ").collect::<Vec<&str>>(alloc).ok()

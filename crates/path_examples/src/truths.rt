@@ -1,7 +1,8 @@
 //! Whether literals are true in a setting, by what store terms mean there and by running programs.
 
 use crate::fillings::SPARE;
-use crate::runs::{assignments, ends_in};
+use crate::runs::ends_in;
+use program_examples::assignments;
 use rule_terms::{Atom, Literal, Place, StoreNode, StoreTerm, ValueTerm};
 use sqlite_items::{Boxed, Items};
 use std::alloc::Global;

@@ -1,11 +1,12 @@
 //! From cut point to cut point along the one path whose literals are true.
 
 use crate::fillings::instance;
-use crate::runs::{assignments, ends_behind, ends_in};
+use crate::runs::{ends_behind, ends_in};
 use crate::truths::{Scene, are_true, store_text};
 use entry_pairs::cuts;
 use param_meaning::fill;
 use path_pairs::{CutPoints, Side, block_points, paths};
+use program_examples::assignments;
 use rule_terms::{Path, Stop, StoreNode, StoreTerm};
 use sqlite_items::Items;
 use std::alloc::Global;

@@ -14,8 +14,6 @@ mod refusal;
 mod side_paths;
 mod stretch;
 mod test_outcome;
-#[cfg(test)]
-mod tests;
 mod walking;
 
 pub use along::block_points;

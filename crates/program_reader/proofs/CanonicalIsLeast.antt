@@ -4,7 +4,7 @@ use Rattle.std.proofs.Common.{ℕ, suc, ◌≤◌, List, Option, None, Some, ari
 use Rattle.toy_imp.specs.declared.param.Kind.{Kind}
 use Rattle.toy_imp.specs.declared.param.Kind.TheVariants as kind
 use Rattle.toy_imp.specs.declared.param.Param.{Param}
-use Rattle.toy_imp.specs.Expr.{Expr, Exprs, no_exprs, expr}
+use Rattle.toy_imp.specs.Expr.{Exprs, no_exprs, expr}
 use Rattle.toy_imp.specs.Parameters.{kind_of, name_value, cell_by}
 use Rattle.toy_imp.specs.ExprGrammar.{ExprTree, term, plus, minus, TermTree, factor, times, FactorTree, numeral, negative, cell, group, PlaceTree, variable, index_1, index_2, index_3, place_name, expr_value, term_value, factor_value, indices_value, expr_levels, term_levels, factor_levels, place_levels, expr_operators, term_operators, factor_operators, place_operators, index_operators}
 use Rattle.toy_imp.specs.TestGrammar.{TestTree, both, either, BothTree, one, also, OneTree, negated, bracketed, named_test, below, at_most, same, test_tree_value, both_value, one_value, test_levels, both_levels, one_levels, test_operators, both_operators, one_operators}

@@ -18,8 +18,3 @@ pub use front::{behind_sign, behind_word};
 pub use names::Names;
 pub use program::{MOST_LEVELS, has_wide, read_program};
 pub use refusal::{ReadRule, Unread};
-
-#[cfg(test)]
-mod names_tests;
-#[cfg(test)]
-mod program_tests;

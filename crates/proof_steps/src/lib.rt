@@ -16,8 +16,6 @@ mod refutation;
 mod replaced;
 mod steps;
 mod sums;
-#[cfg(test)]
-mod tests;
 mod walk;
 
 pub use refutation::{By, Refutation, Step, SumRow};

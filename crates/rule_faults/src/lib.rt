@@ -12,6 +12,3 @@ mod repeating;
 pub use first::first_fault;
 pub use omitting::omits_parameter;
 pub use repeating::{repeats_name, repeats_pair};
-
-#[cfg(test)]
-mod tests;

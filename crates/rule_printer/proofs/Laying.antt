@@ -15,11 +15,9 @@ use Rattle.pec_text.specs.Byte.{is_id_byte}
 use Rattle.pec_text.specs.Spelling.{is_gap_byte, word_text, sign_text, IsName, numeral_of, IsLexeme, sign_goes_on, goes_on, StopsBefore, Begins, Spells}
 use Rattle.pec_text.specs.declared.token.Numeral.TheVariants as n
 use Rattle.pec_text.specs.declared.token.Sign.{Sign}
-use Rattle.pec_text.specs.declared.token.Sign.TheVariants as s
 use Rattle.pec_text.specs.declared.token.Token.{Token}
 use Rattle.pec_text.specs.declared.token.Token.TheVariants as t
 use Rattle.pec_text.specs.declared.token.Word.{Word}
-use Rattle.pec_text.specs.declared.token.Word.TheVariants as w
 use Rattle.pec_text.proofs.Ids.{run_of_id}
 use Rattle.program_reader.specs.ProgramReading.{is_wide}
 use Rattle.rule_printer.proofs.WrittenLines.{is_plain, GoesOn, CanEnd, IsWhole, goes_on-plain, goes_on-append, can_end-append}

@@ -1,10 +1,10 @@
 -- The canonical text of a spellable program is one section that spells it, and what is read from it has the same text.
-use Rattle.std.proofs.Common.{◌≡◌, ℕ, zero, suc, true, false, List, [], ◌∷◌, ◌++◌, codes, refl, sym, ap, ◌∙◌, subst, arith}
+use Rattle.std.proofs.Common.{◌≡◌, ℕ, zero, suc, false, List, [], ◌∷◌, ◌++◌, codes, refl, sym, ap, ◌∙◌, subst, arith}
 use Rattle.std.specs.List.{list_any}
 use Rattle.std.proofs.lemmas.Bool.{or_parts, false≢true}
 use Rattle.std.proofs.lemmas.List.{append-nil}
 use Rattle.std.proofs.lemmas.Option.{same_Some}
-use Rattle.toy_imp.specs.Block.{Block, empty}
+use Rattle.toy_imp.specs.Block.{Block}
 use Rattle.toy_imp.specs.BlockCanonical.{canonical_block}
 use Rattle.toy_imp.proofs.CanonicalValues.{block-value}
 use Rattle.pec_text.specs.Section.{IsText}
@@ -12,9 +12,7 @@ use Rattle.pec_text.specs.Spelling.{Spells}
 use Rattle.pec_text.specs.declared.section_data.Section.{Section}
 use Rattle.pec_text.specs.declared.section_data.SectionKind.TheVariants.{Program}
 use Rattle.pec_text.specs.declared.section_data.SectionList.{SectionList}
-use Rattle.pec_text.specs.declared.token.Numeral.TheVariants as n
 use Rattle.pec_text.specs.declared.token.Token.{Token}
-use Rattle.pec_text.specs.declared.token.Token.TheVariants as t
 use Rattle.pec_text.proofs.Readings.{one_reading}
 use Rattle.pec_text.proofs.SectionLemmas.{one_list}
 use Rattle.program_reader.specs.Grammar.{HasWide, SpellsProgram}
@@ -101,7 +99,3 @@ program_printed_again title read_title b read h text =
 
 pub printed_reads_back : (text title : List ℕ) (b : Block) → IsSpellableProgram title b → text ≡ program_text title b → IsTextOfProgram text title b
 printed_reads_back text title b h is = subst (λ z. IsTextOfProgram z title b) (sym is) (program_reads_back title b h)
-
--- the program of no statements
-pub empty_spellable : IsSpellableProgram (codes "empty") empty
-empty_spellable = record { title_is_id = refl; is_program = refl; spellable = refl; names = tt; shallow = omega arith }

@@ -8,11 +8,7 @@ mod phrase;
 mod program;
 mod rule;
 mod rule_lines;
-#[cfg(test)]
-mod rule_tests;
 mod test_printing;
-#[cfg(test)]
-mod tests;
 
 pub use program::{print_program, program_printed_again};
 pub use rule::{print_rule, rule_printed_again};

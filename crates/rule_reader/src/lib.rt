@@ -9,8 +9,6 @@ mod cut_lines;
 mod declarations;
 mod front;
 mod rule_parts;
-#[cfg(test)]
-mod rule_tests;
 mod rule_text;
 
 pub use rule_text::read_rule;

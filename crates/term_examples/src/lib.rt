@@ -16,3 +16,5 @@ mod counted_tests;
 mod meaning_tests;
 #[cfg(test)]
 mod precondition_tests;
+#[cfg(test)]
+mod refutation_tests;

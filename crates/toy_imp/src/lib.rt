@@ -14,16 +14,12 @@ pub mod laws;
 mod levels;
 mod name;
 mod nesting;
-#[cfg(test)]
-mod nesting_tests;
 mod no_memory;
 mod operators;
 mod param;
 mod points;
 mod rule;
 mod test;
-#[cfg(test)]
-mod tests;
 mod uses;
 
 pub use block::{Block, Stmt, StmtNode};

@@ -10,8 +10,6 @@ mod place;
 mod ran;
 mod run;
 mod step;
-#[cfg(test)]
-mod tests;
 mod work;
 
 pub use cell::Cell;

@@ -5,7 +5,7 @@ use Rattle.pec_text.specs.declared.token.Token.TheVariants as t
 use Rattle.pec_text.specs.declared.token.Sign.TheVariants as s
 use Rattle.pec_text.specs.declared.token.Word.TheVariants as w
 use Rattle.program_reader.specs.Read.{ReadStmt}
-use Rattle.program_reader.specs.BlockReading.{is_end, brace_closed, stmt_read, stmts_read}
+use Rattle.program_reader.specs.BlockReading.{is_end, stmt_read, stmts_read}
 use Rattle.program_reader.specs.Unread.{Gives}
 use Rattle.program_reader.specs.declared.refusal.Unread.TheVariants.{NotGrammar}
 use Rattle.program_reader.proofs.BlockTurns.{for_is, let_is, block_some, else_some, if_some, if_none, while_some, while_none, for_some, let_some, many_more, many_end, many_out}

@@ -1,4 +1,4 @@
-use Rattle.std.proofs.Common.{◌≡◌, ◌<◌, ◌≤◌, ◌-◌, min, take, drop, length, sym, ◌∙◌, rules, arith}
+use Rattle.std.proofs.Common.{◌≡◌, ◌<◌, ◌-◌, min, take, drop, length, sym, ◌∙◌, rules, arith}
 use Rattle.std.proofs.lemmas.Grind.{common_steps}
 use Rattle.pec_io.proofs.Pieces.{piece_given, none_left}
 use Rattle.pec_io.proofs.steady_source.SteadySourceSource.read.Goals as goal

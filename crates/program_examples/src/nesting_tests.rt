@@ -1,10 +1,10 @@
-//! Nestings of deep texts, worked out by hand; those of short ones are worked out in `proofs/CanonicalExamples.antt`.
+//! Nestings of deep texts, worked out by hand; those of short ones are lemmas of `toy_imp` (`proofs/CanonicalExamples.antt`).
 //! They also show that a walk over 4,097 levels ends well on an ordinary stack.
 
-use crate::{Block, Expr, Name, NoMemory, Stmt};
 use sqlite_items::Items;
 use std::alloc::Global;
 use std::test::Fail;
+use toy_imp::{Block, Expr, Name, NoMemory, Stmt};
 
 // `1 + 1 + .. + 1` of so many operators
 fn left_sum(alloc: Global, operators: u32) -> Result<Expr, NoMemory> {

@@ -1,49 +1,40 @@
 //! Canonical texts of rules, worked out by hand, and some 200 generated rules: each is read, printed, read
 //! back and printed again, and both printed texts are the same.
 
-ghost use Rattle.std.specs.Prelude.{◌≡◌, true, IfOk};
+ghost use Rattle.std.specs.Prelude.{◌≡◌, true};
 ghost use Rattle.pec_text.specs.Id.{is_id};
 
-use crate::rule::{print_rule, put_rule};
-use crate::tests::{choice, next};
-use pec_text::{Section, SectionKind, sections};
+use crate::generated::{choice, next, only_section};
+use crate::section;
+use pec_text::{Section, SectionKind};
+use rule_printer::print_rule;
 use rule_reader::read_rule;
-use sqlite_items::Items;
 use std::alloc::{AllocError, Global};
 use std::test::Fail;
 
-fn section(alloc: Global, body: &[u8]) -> Result<Section, AllocError>
-    ensures { IfOk result (λ s. is_id s.title ≡ true) }
+/// The canonical text of the rule that a section's body spells.
+fn printed_section(alloc: Global, section: &Section) -> Result<Vec<u8>, Fail>
+    requires { is_id section.now.title ≡ true }
 {
-    Ok(Section {
-        kind: SectionKind::Rule,
-        title: Items::from_slice(alloc, b"t")?,
-        body: Items::from_slice(alloc, body)?,
-    })
+    match read_rule(alloc, section) {
+        Ok(rule) => match print_rule(alloc, &rule) {
+            Ok(text) => Ok(text),
+            Err(_) => Err(Fail::from("no memory")),
+        },
+        Err(_) => Err(Fail::from("a body that is not read")),
+    }
 }
 
-/// The canonical text of the rule that a body spells.
+/// The same of a body.
 fn printed(alloc: Global, body: &[u8]) -> Result<Vec<u8>, Fail> {
-    let section = section(alloc, body)?;
-    let Ok(rule) = read_rule(alloc, &section) else {
-        return Err(Fail::from("a body that is not read"));
-    };
-    let mut out = Vec::new(alloc);
-    match put_rule(&rule, &mut out) {
-        Ok(()) => Ok(out),
-        Err(_) => Err(Fail::from("no memory")),
-    }
+    let section = section(alloc, SectionKind::Rule, body)?;
+    printed_section(alloc, &section)
 }
 
 /// The same of the body of the one section of a text.
 fn printed_again(alloc: Global, text: &[u8]) -> Result<Vec<u8>, Fail> {
-    let Ok(list) = sections(alloc, text) else {
-        return Err(Fail::from("no memory"));
-    };
-    match list.whole.as_slice() {
-        [one] => printed(alloc, one.body.as_slice()),
-        _ => Err(Fail::from("not one section")),
-    }
+    let one = only_section(alloc, text)?;
+    printed(alloc, one.body.as_slice())
 }
 
 fn whole(alloc: Global, body: &[u8]) -> Result<Vec<u8>, AllocError> {
@@ -72,6 +63,14 @@ fn prints_rules_as_worked_out(rt: HostRuntime) -> Result<(), Fail> {
         let found = printed(rt.alloc(), body.as_bytes())?;
         assert_eq!(rt; found.as_slice() == wanted.as_slice(), true, "{body}");
     }
+    Ok(())
+}
+
+#[test]
+fn prints_a_rule_in_canonical_form(rt: HostRuntime) -> Result<(), Fail> {
+    let text = printed(rt.alloc(), b"stmt S;left{S;skip;}right{S;}")?;
+    let wanted = "rule t\nstmt S;\nleft {\n  S;\n  skip;\n}\nright {\n  S;\n}\nend\n";
+    assert_eq!(rt; text.as_slice() == wanted.as_bytes(), true);
     Ok(())
 }
 
@@ -142,28 +141,5 @@ fn prints_the_rules_that_it_reads(rt: HostRuntime) -> Result<(), Fail> {
         let second = printed_again(rt.alloc(), first.as_slice())?;
         assert_eq!(rt; first.as_slice() == second.as_slice(), true, "{k}");
     }
-    Ok(())
-}
-
-/// The text that `print_rule` answers for the rule of this body.
-fn answered(alloc: Global, body: &[u8]) -> Result<Vec<u8>, Fail> {
-    let section = section(alloc, body)?;
-    match read_rule(alloc, &section) {
-        Ok(rule) => match print_rule(alloc, &rule) {
-            Ok(text) => Ok(text),
-            Err(_) => Err(Fail::from("no memory")),
-        },
-        Err(_) => Err(Fail::from("a body that is not read")),
-    }
-}
-
-#[test]
-fn answers_the_text_of_a_rule(rt: HostRuntime) -> Result<(), Fail> {
-    let text = answered(rt.alloc(), b"stmt S;left{S;skip;}right{S;}")?;
-    assert_eq!(rt;
-        text.as_slice()
-            == b"rule t\nstmt S;\nleft {\n  S;\n  skip;\n}\nright {\n  S;\n}\nend\n".as_slice(),
-        true
-    );
     Ok(())
 }

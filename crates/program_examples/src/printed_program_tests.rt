@@ -1,24 +1,16 @@
 //! Some 200 generated programs, a long sum and a deep nest: each is read, printed, read back and printed
 //! again, and both printed texts are the same.
 
-use crate::print_program;
-use crate::program::put_program;
-use pec_text::{Section, SectionKind, sections};
+ghost use Rattle.std.specs.Prelude.{◌≡◌, true};
+ghost use Rattle.pec_text.specs.Id.{is_id};
+
+use crate::generated::{choice, next, only_section};
+use crate::section;
+use pec_text::{Section, SectionKind};
 use program_reader::read_program;
-use sqlite_items::Items;
+use rule_printer::print_program;
 use std::alloc::{AllocError, Global};
 use std::test::Fail;
-use toy_imp::Block;
-
-/// The next number of a generator, and a choice by the upper bits.
-pub fn next(seed: u64) -> u64 {
-    seed.wrapping_mul(6_364_136_223_846_793_005)
-        .wrapping_add(1_442_695_040_888_963_407)
-}
-
-pub fn choice(seed: u64, of: u64) -> u64 {
-    (seed >> 33u32) % of.max(1)
-}
 
 /// Puts a generated expression with at most `depth` levels, and answers the next number.
 fn expression(seed: u64, depth: u64, out: &mut Vec<u8>) -> Result<u64, AllocError> {
@@ -120,32 +112,29 @@ fn block(k: u64) -> (&'static [u8], &'static [u8]) {
     }
 }
 
-/// The canonical text of the program that a body spells.
-fn printed(alloc: Global, body: &[u8]) -> Result<Vec<u8>, Fail> {
-    let section = Section {
-        kind: SectionKind::Program,
-        title: Items::from_slice(alloc, b"t")?,
-        body: Items::from_slice(alloc, body)?,
-    };
-    let mut out = Vec::new(alloc);
-    let Ok(program) = read_program(alloc, &section) else {
-        return Err(Fail::from("a body that is not read"));
-    };
-    match put_program(b"t", &program, &mut out) {
-        Ok(()) => Ok(out),
-        Err(_) => Err(Fail::from("no memory")),
+/// The canonical text of the program that a section's body spells.
+fn printed_section(alloc: Global, section: &Section) -> Result<Vec<u8>, Fail>
+    requires { is_id section.now.title ≡ true }
+{
+    match read_program(alloc, section) {
+        Ok(program) => match print_program(alloc, section.title.as_slice(), &program) {
+            Ok(text) => Ok(text),
+            Err(_) => Err(Fail::from("no memory")),
+        },
+        Err(_) => Err(Fail::from("a body that is not read")),
     }
+}
+
+/// The same of a body.
+fn printed(alloc: Global, body: &[u8]) -> Result<Vec<u8>, Fail> {
+    let section = section(alloc, SectionKind::Program, body)?;
+    printed_section(alloc, &section)
 }
 
 /// The same of the body of the one section of a text.
 fn printed_again(alloc: Global, text: &[u8]) -> Result<Vec<u8>, Fail> {
-    let Ok(list) = sections(alloc, text) else {
-        return Err(Fail::from("no memory"));
-    };
-    match list.whole.as_slice() {
-        [one] => printed(alloc, one.body.as_slice()),
-        _ => Err(Fail::from("not one section")),
-    }
+    let one = only_section(alloc, text)?;
+    printed(alloc, one.body.as_slice())
 }
 
 /// `front`, then `count` times `middle`, and `back` as often.
@@ -193,14 +182,8 @@ fn prints_long_sums_and_deep_nests(rt: HostRuntime) -> Result<(), Fail> {
 }
 
 #[test]
-#[tactic(auto, using(crate::proofs::ProgramPrinted::empty_spellable))]
 fn prints_an_empty_program(rt: HostRuntime) -> Result<(), Fail> {
-    let program = Block::new(rt.alloc());
-    match print_program(rt.alloc(), b"empty", &program) {
-        Ok(text) => {
-            assert_eq!(rt; text.as_slice() == b"program empty\nend\n".as_slice(), true);
-            Ok(())
-        }
-        Err(_) => Err(Fail::from("no memory")),
-    }
+    let text = printed(rt.alloc(), b"")?;
+    assert_eq!(rt; text.as_slice() == b"program t\nend\n".as_slice(), true);
+    Ok(())
 }

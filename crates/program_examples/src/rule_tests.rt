@@ -1,26 +1,17 @@
 //! Bodies of rules that are read, and why others are not: the grammar, the numbers that are too wide,
 //! and each item that a rule that is not well formed is refused for, alone and beside the next one.
 
-use crate::read_rule;
-use pec_text::{Section, SectionKind};
+use crate::section;
+use pec_text::SectionKind;
 use program_reader::ReadRule;
-use sqlite_items::Items;
+use rule_reader::read_rule;
 use std::alloc::{AllocError, Global};
 use std::test::Fail;
 use toy_imp::{Condition, CutList, Method, Rule};
 
-/// A section of this body.
-fn section(alloc: Global, body: &[u8]) -> Result<Section, AllocError> {
-    Ok(Section {
-        kind: SectionKind::Rule,
-        title: Items::new(alloc),
-        body: Items::from_slice(alloc, body)?,
-    })
-}
-
 /// Why the body is not read, in a word; `ok` where it is.
 fn answer(alloc: Global, body: &[u8]) -> Result<&'static str, AllocError> {
-    let section = section(alloc, body)?;
+    let section = section(alloc, SectionKind::Rule, body)?;
     Ok(word(read_rule(alloc, &section)))
 }
 
@@ -245,7 +236,7 @@ fn shown(alloc: Global, rule: &Rule) -> Result<String, AllocError> {
 }
 
 fn told(alloc: Global, body: &[u8]) -> Result<String, AllocError> {
-    let section = section(alloc, body)?;
+    let section = section(alloc, SectionKind::Rule, body)?;
     match read_rule(alloc, &section) {
         Ok(rule) => shown(alloc, &rule),
         Err(_refusal) => format!(in alloc; "refused"),

@@ -1,6 +1,6 @@
 //! The outcomes of a test, with ample memory: a call that gets memory answers them.
 
-use crate::{outcome_counts, outcomes};
+use path_pairs::{outcome_counts, outcomes};
 use rule_terms::StoreTerm;
 use std::test::Fail;
 use toy_imp::Test;

@@ -1,7 +1,7 @@
 //! Each public function once, on a small value. What blocks are filled to is worked out, place by
-//! place, in `proofs/Examples.antt`; that the functions answer it is their contract.
+//! place, in the lemmas of `param_meaning` (`proofs/Examples.antt`); that the functions answer it is their contract.
 
-use crate::{fill, fill_expr, fill_exprs, fill_name};
+use param_meaning::{fill, fill_expr, fill_exprs, fill_name};
 use sqlite_items::Items;
 use std::alloc::Global;
 use std::test::Fail;

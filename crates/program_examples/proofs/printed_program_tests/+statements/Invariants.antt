@@ -1,4 +1,4 @@
-use Rattle.rule_printer.proofs.tests.+statements.Given as goal
+use Rattle.program_examples.proofs.printed_program_tests.+statements.Given as goal
 
 abbrev pub decreases-statements : goal.decreases-statements
 decreases-statements l = l.depth

@@ -1,24 +1,15 @@
 //! Bodies of programs that are read, near misses that are not, and the limits of nesting.
 
-use crate::{ReadRule, read_program};
-use pec_text::{Section, SectionKind};
-use sqlite_items::Items;
+use crate::section;
+use pec_text::SectionKind;
+use program_reader::{ReadRule, read_program};
 use std::alloc::{AllocError, Global};
 use std::test::Fail;
 use toy_imp::Block;
 
-/// A section of this body.
-fn section(alloc: Global, body: &[u8]) -> Result<Section, AllocError> {
-    Ok(Section {
-        kind: SectionKind::Program,
-        title: Items::new(alloc),
-        body: Items::from_slice(alloc, body)?,
-    })
-}
-
 /// Why the body is not read, in a word; `ok` where it is.
 fn answer(alloc: Global, body: &[u8]) -> Result<&'static str, AllocError> {
-    let section = section(alloc, body)?;
+    let section = section(alloc, SectionKind::Program, body)?;
     Ok(word(read_program(alloc, &section)))
 }
 

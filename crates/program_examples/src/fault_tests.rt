@@ -1,7 +1,7 @@
 //! A rule of each answer that is found with memory, and one with more parameters and cuts than can be
 //! compared two by two in a test.
 
-use crate::first_fault;
+use rule_faults::first_fault;
 use sqlite_items::Items;
 use std::alloc::Global;
 use std::test::Fail;

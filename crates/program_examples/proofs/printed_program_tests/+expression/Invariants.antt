@@ -1,4 +1,4 @@
-use Rattle.rule_printer.proofs.tests.+expression.Given as goal
+use Rattle.program_examples.proofs.printed_program_tests.+expression.Given as goal
 
 abbrev pub decreases-expression : goal.decreases-expression
 decreases-expression l = l.depth

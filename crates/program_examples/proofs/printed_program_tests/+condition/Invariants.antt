@@ -1,4 +1,4 @@
-use Rattle.rule_printer.proofs.tests.+condition.Given as goal
+use Rattle.program_examples.proofs.printed_program_tests.+condition.Given as goal
 
 abbrev pub decreases-condition : goal.decreases-condition
 decreases-condition l = l.depth

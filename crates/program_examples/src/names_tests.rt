@@ -3,7 +3,7 @@
 
 ghost use Rattle.std.specs.Prelude.{◌<◌};
 
-use crate::Names;
+use program_reader::Names;
 use sqlite_items::Items;
 use std::alloc::Global;
 use std::test::Fail;

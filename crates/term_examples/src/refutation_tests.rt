@@ -1,0 +1,42 @@
+//! A refutation of an obligation whose goal is known, and the same with a known conjunct that is not there.
+
+use crate::obligation;
+use proof_steps::{By, Refutation, Step, refutes};
+use rule_terms::{Atom, Literal, StoreTerm};
+use sqlite_items::Items;
+use std::alloc::Global;
+use std::test::Fail;
+use toy_imp::NoMemory;
+
+fn sides(sign: bool) -> Literal {
+    Literal {
+        sign,
+        atom: Atom::SameStore(StoreTerm::left(), StoreTerm::right()),
+    }
+}
+
+fn leaf(alloc: Global, known: u32) -> Result<Refutation, NoMemory> {
+    let mut steps = Items::new(alloc);
+    steps.push(Step {
+        gives: sides(false),
+        by: By::Given,
+    })?;
+    steps.push(Step {
+        gives: sides(true),
+        by: By::Known(known, Items::new(alloc)),
+    })?;
+    Ok(Refutation::Leaf(steps))
+}
+
+fn is_refuted(alloc: Global, known: u32) -> Option<bool> {
+    let ob = obligation(alloc, "| +store L R | | +store L R")?;
+    let proof = leaf(alloc, known).ok()?;
+    Some(refutes(&ob, &proof))
+}
+
+#[test]
+fn known_goal_is_refuted(rt: HostRuntime) -> Result<(), Fail> {
+    assert_eq!(rt; is_refuted(rt.alloc(), 0), Some(true));
+    assert_eq!(rt; is_refuted(rt.alloc(), 1), Some(false));
+    Ok(())
+}
