@@ -17,7 +17,7 @@ use toy_imp::{Expr, Test};
 
 /// A test with at most `levels` of `not`, brackets and parentheses round one place, and at most
 /// `left` operators. Also how many operators are left, and the tokens that are.
-#[cycle(test)]
+#[cycle(tests)]
 #[tactic(auto, unfolding(crate::specs::TestReading::test_read, crate::specs::TestReading::either_read, crate::specs::TestReading::ors_read))]
 pub fn test<'a>(
     alloc: Global,
@@ -45,7 +45,7 @@ pub fn test<'a>(
 }
 
 /// A conjunction: tests with `and` between them.
-#[cycle(test)]
+#[cycle(tests)]
 #[tactic(auto, unfolding(crate::specs::TestReading::both_read, crate::specs::TestReading::ands_read))]
 fn both<'a>(
     alloc: Global,
@@ -73,7 +73,7 @@ fn both<'a>(
 }
 
 /// One test: `not`, brackets, a name alone or a comparison.
-#[cycle(test)]
+#[cycle(tests)]
 #[tactic(auto, unfolding(crate::specs::TestReading::one_read, crate::specs::TestReading::one_by, crate::specs::TestReading::test_read))]
 fn one<'a>(
     alloc: Global,
@@ -102,7 +102,7 @@ fn one<'a>(
 }
 
 /// The test under a `not`, of which `levels` more may be opened.
-#[cycle(test)]
+#[cycle(tests)]
 #[tactic(auto, unfolding(crate::specs::TestReading::one_read))]
 fn under_not<'a>(
     alloc: Global,
@@ -120,7 +120,7 @@ fn under_not<'a>(
 }
 
 /// The test inside brackets, of which `levels` more may be opened.
-#[cycle(test)]
+#[cycle(tests)]
 #[tactic(auto, unfolding(crate::specs::TestReading::test_read, crate::specs::TestReading::either_read, crate::specs::TestReading::both_read, crate::specs::TestReading::one_read))]
 fn in_brackets<'a>(
     alloc: Global,

@@ -13,7 +13,7 @@ use crate::phrase::{put, put_declared};
 use toy_imp::{Expr, ExprForm, NoMemory, Param, Test, TestForm, TestNode};
 
 /// Puts a test that stands for a form of the grammar.
-#[cycle(test)]
+#[cycle(tests)]
 #[tactic(auto, using(crate::proofs::Phrases::test_forms))]
 pub fn put_test(
     params: &[Param],
@@ -38,7 +38,7 @@ pub fn put_test(
 }
 
 /// Puts an `and`, in brackets where it is the right operand of one or under `not`.
-#[cycle(test)]
+#[cycle(tests)]
 fn put_and(
     params: &[Param],
     t: &Test,
@@ -59,7 +59,7 @@ fn put_and(
 }
 
 /// Puts an `and` as it is.
-#[cycle(test)]
+#[cycle(tests)]
 fn put_both(params: &[Param], t: &Test, u: &Test, out: &mut Vec<u8>) -> Result<(), NoMemory>
     ensures { OnOk result (out.new.items ≡ out.old.items ++ (test_bytes_as test_form.Both (canonical_test params.now t.now) ++ (codes " and " ++ test_bytes_as test_form.One (canonical_test params.now u.now)))) }
 {
@@ -69,7 +69,7 @@ fn put_both(params: &[Param], t: &Test, u: &Test, out: &mut Vec<u8>) -> Result<(
 }
 
 /// Puts an `or`, in brackets where it is a right operand, an operand of `and` or under `not`.
-#[cycle(test)]
+#[cycle(tests)]
 fn put_or(
     params: &[Param],
     t: &Test,
@@ -90,7 +90,7 @@ fn put_or(
 }
 
 /// Puts an `or` as it is.
-#[cycle(test)]
+#[cycle(tests)]
 fn put_either(params: &[Param], t: &Test, u: &Test, out: &mut Vec<u8>) -> Result<(), NoMemory>
     ensures { OnOk result (out.new.items ≡ out.old.items ++ (test_bytes_as test_form.Test (canonical_test params.now t.now) ++ (codes " or " ++ test_bytes_as test_form.Both (canonical_test params.now u.now)))) }
 {

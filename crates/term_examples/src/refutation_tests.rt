@@ -2,7 +2,7 @@
 
 use crate::obligation;
 use proof_steps::{By, Refutation, Step, refutes};
-use rule_terms::{Atom, Literal, StoreTerm};
+use rule_terms::{Atom, Literal, Obligation, StoreTerm};
 use sqlite_items::Items;
 use std::alloc::Global;
 use std::test::Fail;
@@ -28,10 +28,14 @@ fn leaf(alloc: Global, known: u32) -> Result<Refutation, NoMemory> {
     Ok(Refutation::Leaf(steps))
 }
 
+fn is_right(alloc: Global, ob: &Obligation, known: u32) -> Option<bool> {
+    let proof = leaf(alloc, known).ok()?;
+    Some(refutes(ob, &proof))
+}
+
 fn is_refuted(alloc: Global, known: u32) -> Option<bool> {
     let ob = obligation(alloc, "| +store L R | | +store L R")?;
-    let proof = leaf(alloc, known).ok()?;
-    Some(refutes(&ob, &proof))
+    is_right(alloc, &ob, known)
 }
 
 #[test]

@@ -12,14 +12,14 @@ use std::alloc::Global;
 use std::marker::Model;
 
 /// A test. It is pure and total.
-#[cycle(test)]
+#[cycle(tests)]
 #[derive(Drop)]
 pub struct Test {
     pub node: TestNode,
 }
 
 /// The top of a test.
-#[cycle(test)]
+#[cycle(tests)]
 #[derive(Drop)]
 pub enum TestNode {
     Less(Expr, Expr),

@@ -1,6 +1,6 @@
 use Rattle.std.proofs.Common.{◌+◌, ◌*◌, max}
 use Rattle.toy_imp.specs.Test.{test_depth}
-use Rattle.rule_printer.proofs.test_printing.+test.Given as goal
+use Rattle.rule_printer.proofs.test_printing.+tests.Given as goal
 
 abbrev pub decreases-put_test : goal.decreases-put_test
 decreases-put_test l = 4 * test_depth l.t.now

@@ -8,7 +8,7 @@ use Rattle.program_reader.specs.TestReading.{ands_read, both_read, ors_read, one
 use Rattle.program_reader.specs.Unread.{Gives}
 use Rattle.program_reader.specs.declared.refusal.Unread.TheVariants.{NotGrammar}
 use Rattle.program_reader.proofs.GrammarTurns.{turned, unturned, ands_next, ors_next}
-use Rattle.program_reader.proofs.test_reading.+test.Goals as goal
+use Rattle.program_reader.proofs.test_reading.+tests.Goals as goal
 
 pub both-returns-in_err-next : goal.both-returns-in_err-next
 both-returns-in_err-next below c =

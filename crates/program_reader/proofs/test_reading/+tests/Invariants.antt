@@ -1,6 +1,6 @@
 use Rattle.std.proofs.Common.{◌≡◌, suc, ◌+◌, ◌-◌, ◌*◌}
 use Rattle.program_reader.specs.TestReading.{ands_read, both_read, ors_read, one_read, test_read}
-use Rattle.program_reader.proofs.test_reading.+test.Given as goal
+use Rattle.program_reader.proofs.test_reading.+tests.Given as goal
 
 abbrev pub decreases-test : goal.decreases-test
 decreases-test l = 8 * l.levels + 7
