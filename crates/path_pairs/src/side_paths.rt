@@ -18,7 +18,7 @@ use crate::locations::rest_at;
 use crate::met::Met;
 use crate::refusal::PathRefusal;
 use crate::stretch::Stretch;
-use crate::walking::{walk, walk_on};
+use crate::walking::{Course, walk, walk_on};
 use rule_terms::{LimitKind, Path};
 use sqlite_items::Items;
 use std::alloc::Global;
@@ -76,9 +76,19 @@ fn walked(
     ensures { Adds (walks_from from 63 cuts.now exit (stands met.literals met.store (rest_of rest.now))) all.old all.new result }
 {
     if from == 0 {
-        walk(alloc, cuts, exit, 64, met, rest, all)
+        let course = Course {
+            cuts,
+            exit,
+            steps: 64,
+        };
+        walk(alloc, course, met, rest, all)
     } else {
-        walk_on(alloc, cuts, exit, 63, met, rest, all)
+        let course = Course {
+            cuts,
+            exit,
+            steps: 63,
+        };
+        walk_on(alloc, course, met, rest, all)
     }
 }
 

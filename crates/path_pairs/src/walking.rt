@@ -31,6 +31,17 @@ use sqlite_items::Items;
 use std::alloc::Global;
 use toy_imp::{Block, Expr, Name, Stmt, StmtNode, Test};
 
+/// How far walks go on: to the next cut point or the exit, and at most so many steps.
+#[derive(Clone, Copy)]
+pub struct Course<'a> {
+    /// The numbers of the cut points of the side.
+    pub cuts: &'a [u32],
+    /// The number of its exit.
+    pub exit: u32,
+    /// The most steps that a walk still makes.
+    pub steps: u64,
+}
+
 // Where a walk stops that stands before a statement whose first point has the number `n`.
 fn stmt_stop(cuts: &[u32], n: u64, s: &Stmt) -> Option<Stop>
     requires { n + stmt_count s.now < 2 ^ 32 }
@@ -113,24 +124,26 @@ fn is_too_large(met: &Met, t: &Test, way: bool) -> bool
 #[cycle(walk)]
 pub fn walk(
     alloc: Global,
-    cuts: &[u32],
-    exit: u32,
-    steps: u64,
+    course: Course<'_>,
     met: Met,
     rest: &[Stretch<'_>],
     all: &mut Items<Path>,
 ) -> Result<(), PathRefusal>
     requires rest { AreWalkable (rest_of rest.now) }
-    requires ends { goes_on (suc steps) cuts.now exit (stands met.literals met.store (rest_of rest.now)) ≡ false }
-    ensures { Adds (walks steps cuts.now exit (stands met.literals met.store (rest_of rest.now))) all.old all.new result }
+    requires ends { goes_on (suc course.steps) course.cuts.now course.exit (stands met.literals met.store (rest_of rest.now)) ≡ false }
+    ensures { Adds (walks course.entry.steps course.entry.cuts.now course.entry.exit (stands met.literals met.store (rest_of rest.now))) all.old all.new result }
 {
-    match rest_stop(cuts, exit, rest) {
+    match rest_stop(course.cuts, course.exit, rest) {
         Some(stop) => add_path(all, met, stop),
         None => {
-            if steps == 0 {
+            if course.steps == 0 {
                 Ok(())
             } else {
-                walk_on(alloc, cuts, exit, steps - 1, met, rest, all)
+                let next = Course {
+                    steps: course.steps - 1,
+                    ..course
+                };
+                walk_on(alloc, next, met, rest, all)
             }
         }
     }
@@ -141,16 +154,14 @@ pub fn walk(
 #[cycle(walk)]
 pub fn walk_on(
     alloc: Global,
-    cuts: &[u32],
-    exit: u32,
-    steps: u64,
+    course: Course<'_>,
     met: Met,
     rest: &[Stretch<'_>],
     all: &mut Items<Path>,
 ) -> Result<(), PathRefusal>
     requires rest { AreWalkable (rest_of rest.now) }
-    requires ends { list_any (goes_on (suc steps) cuts.now exit) (rest_step (rest_of rest.now) met.literals met.store) ≡ false }
-    ensures { Adds (flat_map (walks steps cuts.now exit) (rest_step (rest_of rest.now) met.literals met.store)) all.old all.new result }
+    requires ends { list_any (goes_on (suc course.steps) course.cuts.now course.exit) (rest_step (rest_of rest.now) met.literals met.store) ≡ false }
+    ensures { Adds (flat_map (walks course.entry.steps course.entry.cuts.now course.entry.exit) (rest_step (rest_of rest.now) met.literals met.store)) all.old all.new result }
 {
     match stands_next(rest) {
         None => Ok(()),
@@ -162,9 +173,7 @@ pub fn walk_on(
             let behind = in_front(alloc, others, at.behind)?;
             walk_stmt(
                 alloc,
-                cuts,
-                exit,
-                steps,
+                course,
                 met,
                 at.first,
                 at.stmt,
@@ -180,9 +189,7 @@ pub fn walk_on(
 #[cycle(walk)]
 fn walk_stmt<'a>(
     alloc: Global,
-    cuts: &[u32],
-    exit: u32,
-    steps: u64,
+    course: Course<'_>,
     met: Met,
     n: u64,
     s: &'a Stmt,
@@ -193,31 +200,20 @@ fn walk_stmt<'a>(
     requires s { IsWalkable n (stmt s.now empty) }
     requires here { AreWalkable (rest_of here.now) }
     requires behind { AreWalkable (rest_of behind.now) }
-    requires ends { list_any (goes_on (suc steps) cuts.now exit) (stmt_step n s.now (rest_of here.now) (rest_of behind.now) met.literals met.store) ≡ false }
-    ensures { Adds (flat_map (walks steps cuts.now exit) (stmt_step n s.now (rest_of here.now) (rest_of behind.now) met.literals met.store)) all.old all.new result }
+    requires ends { list_any (goes_on (suc course.steps) course.cuts.now course.exit) (stmt_step n s.now (rest_of here.now) (rest_of behind.now) met.literals met.store) ≡ false }
+    ensures { Adds (flat_map (walks course.entry.steps course.entry.cuts.now course.entry.exit) (stmt_step n s.now (rest_of here.now) (rest_of behind.now) met.literals met.store)) all.old all.new result }
 {
     match &s.node {
-        StmtNode::Skip => walk(alloc, cuts, exit, steps, met, behind, all),
-        StmtNode::Put(x, indices, e) => walk_write(
-            alloc,
-            cuts,
-            exit,
-            steps,
-            met,
-            x,
-            indices.as_slice(),
-            e,
-            behind,
-            all,
-        ),
+        StmtNode::Skip => walk(alloc, course, met, behind, all),
+        StmtNode::Put(x, indices, e) => {
+            walk_write(alloc, course, met, x, indices.as_slice(), e, behind, all)
+        }
         StmtNode::If(t, b, c) => {
             let then = in_front(alloc, inside(n, b), behind)?;
             let or_else = in_front(alloc, inside(n + block_points(b), c), behind)?;
             walk_test(
                 alloc,
-                cuts,
-                exit,
-                steps,
+                course,
                 &met,
                 t,
                 then.as_slice(),
@@ -227,21 +223,11 @@ fn walk_stmt<'a>(
         }
         StmtNode::While(t, b) => {
             let then = in_front(alloc, inside(n + 1, b), here)?;
-            walk_test(
-                alloc,
-                cuts,
-                exit,
-                steps,
-                &met,
-                t,
-                then.as_slice(),
-                behind,
-                all,
-            )
+            walk_test(alloc, course, &met, t, then.as_slice(), behind, all)
         }
         StmtNode::For(_, _, _, _) => Ok(()),
         StmtNode::Let(_, _, _) => Ok(()),
-        StmtNode::Par(k) => walk_run(alloc, cuts, exit, steps, &met, *k, behind, all),
+        StmtNode::Par(k) => walk_run(alloc, course, &met, *k, behind, all),
     }
 }
 
@@ -249,9 +235,7 @@ fn walk_stmt<'a>(
 #[cycle(walk)]
 fn walk_write(
     alloc: Global,
-    cuts: &[u32],
-    exit: u32,
-    steps: u64,
+    course: Course<'_>,
     met: Met,
     x: &Name,
     indices: &[Expr],
@@ -263,11 +247,11 @@ fn walk_write(
     requires indices { all_names_are_open (exprs_of indices.now) ≡ true }
     requires value { names_are_open e.now ≡ true }
     requires behind { AreWalkable (rest_of behind.now) }
-    requires ends { goes_on (suc steps) cuts.now exit (stands met.literals (put met.store (number_of x.now) (values_at (exprs_of indices.now) met.store) (value_at e.now met.store)) (rest_of behind.now)) ≡ false }
-    ensures { Adds (walks steps cuts.now exit (stands met.literals (put met.store (number_of x.now) (values_at (exprs_of indices.now) met.store) (value_at e.now met.store)) (rest_of behind.now))) all.old all.new result }
+    requires ends { goes_on (suc course.steps) course.cuts.now course.exit (stands met.literals (put met.store (number_of x.now) (values_at (exprs_of indices.now) met.store) (value_at e.now met.store)) (rest_of behind.now)) ≡ false }
+    ensures { Adds (walks course.entry.steps course.entry.cuts.now course.entry.exit (stands met.literals (put met.store (number_of x.now) (values_at (exprs_of indices.now) met.store) (value_at e.now met.store)) (rest_of behind.now))) all.old all.new result }
 {
     match met.write(alloc, x, indices, e) {
-        Ok(next) => walk(alloc, cuts, exit, steps, next, behind, all),
+        Ok(next) => walk(alloc, course, next, behind, all),
         Err(e) => Err(e),
     }
 }
@@ -276,20 +260,18 @@ fn walk_write(
 #[cycle(walk)]
 fn walk_ended(
     alloc: Global,
-    cuts: &[u32],
-    exit: u32,
-    steps: u64,
+    course: Course<'_>,
     met: &Met,
     k: u32,
     behind: &[Stretch<'_>],
     all: &mut Items<Path>,
 ) -> Result<(), PathRefusal>
     requires behind { AreWalkable (rest_of behind.now) }
-    requires ends { goes_on (suc steps) cuts.now exit (stands (met.now.literals ++ record { sign = true; atom = Ends (run k met.now.store) } ∷ []) (run k met.now.store) (rest_of behind.now)) ≡ false }
-    ensures { Adds (walks steps cuts.now exit (stands (met.now.literals ++ record { sign = true; atom = Ends (run k met.now.store) } ∷ []) (run k met.now.store) (rest_of behind.now))) all.old all.new result }
+    requires ends { goes_on (suc course.steps) course.cuts.now course.exit (stands (met.now.literals ++ record { sign = true; atom = Ends (run k met.now.store) } ∷ []) (run k met.now.store) (rest_of behind.now)) ≡ false }
+    ensures { Adds (walks course.entry.steps course.entry.cuts.now course.entry.exit (stands (met.now.literals ++ record { sign = true; atom = Ends (run k met.now.store) } ∷ []) (run k met.now.store) (rest_of behind.now))) all.old all.new result }
 {
     match met.run(alloc, k, true) {
-        Ok(ended) => walk(alloc, cuts, exit, steps, ended, behind, all),
+        Ok(ended) => walk(alloc, course, ended, behind, all),
         Err(e) => Err(e),
     }
 }
@@ -298,19 +280,17 @@ fn walk_ended(
 #[cycle(walk)]
 fn walk_run(
     alloc: Global,
-    cuts: &[u32],
-    exit: u32,
-    steps: u64,
+    course: Course<'_>,
     met: &Met,
     k: u32,
     behind: &[Stretch<'_>],
     all: &mut Items<Path>,
 ) -> Result<(), PathRefusal>
     requires behind { AreWalkable (rest_of behind.now) }
-    requires ends { goes_on (suc steps) cuts.now exit (stands (met.now.literals ++ record { sign = true; atom = Ends (run k met.now.store) } ∷ []) (run k met.now.store) (rest_of behind.now)) ≡ false }
-    ensures { Adds (walks steps cuts.now exit (stands (met.now.literals ++ record { sign = true; atom = Ends (run k met.now.store) } ∷ []) (run k met.now.store) (rest_of behind.now)) ++ record { literals = met.now.literals ++ record { sign = false; atom = Ends (run k met.now.store) } ∷ []; store = run k met.now.store; stop = Stuck } ∷ []) all.old all.new result }
+    requires ends { goes_on (suc course.steps) course.cuts.now course.exit (stands (met.now.literals ++ record { sign = true; atom = Ends (run k met.now.store) } ∷ []) (run k met.now.store) (rest_of behind.now)) ≡ false }
+    ensures { Adds (walks course.entry.steps course.entry.cuts.now course.entry.exit (stands (met.now.literals ++ record { sign = true; atom = Ends (run k met.now.store) } ∷ []) (run k met.now.store) (rest_of behind.now)) ++ record { literals = met.now.literals ++ record { sign = false; atom = Ends (run k met.now.store) } ∷ []; store = run k met.now.store; stop = Stuck } ∷ []) all.old all.new result }
 {
-    walk_ended(alloc, cuts, exit, steps, met, k, behind, all)?;
+    walk_ended(alloc, course, met, k, behind, all)?;
     add_stuck(alloc, met, k, all)
 }
 
@@ -318,9 +298,7 @@ fn walk_run(
 #[cycle(walk)]
 fn walk_test(
     alloc: Global,
-    cuts: &[u32],
-    exit: u32,
-    steps: u64,
+    course: Course<'_>,
     met: &Met,
     t: &Test,
     then: &[Stretch<'_>],
@@ -330,20 +308,18 @@ fn walk_test(
     requires is_open { test_is_open t.now ≡ true }
     requires then { AreWalkable (rest_of then.now) }
     requires or_else { AreWalkable (rest_of or_else.now) }
-    requires ends { list_any (goes_on (suc steps) cuts.now exit) (by_each (outcomes t.now true met.now.store) met.now.literals met.now.store (rest_of then.now) ++ by_each (outcomes t.now false met.now.store) met.now.literals met.now.store (rest_of or_else.now)) ≡ false }
-    ensures { Adds (flat_map (walks steps cuts.now exit) (by_each (outcomes t.now true met.now.store) met.now.literals met.now.store (rest_of then.now) ++ by_each (outcomes t.now false met.now.store) met.now.literals met.now.store (rest_of or_else.now))) all.old all.new result }
+    requires ends { list_any (goes_on (suc course.steps) course.cuts.now course.exit) (by_each (outcomes t.now true met.now.store) met.now.literals met.now.store (rest_of then.now) ++ by_each (outcomes t.now false met.now.store) met.now.literals met.now.store (rest_of or_else.now)) ≡ false }
+    ensures { Adds (flat_map (walks course.entry.steps course.entry.cuts.now course.entry.exit) (by_each (outcomes t.now true met.now.store) met.now.literals met.now.store (rest_of then.now) ++ by_each (outcomes t.now false met.now.store) met.now.literals met.now.store (rest_of or_else.now))) all.old all.new result }
 {
-    walk_way(alloc, cuts, exit, steps, met, t, true, then, all)?;
-    walk_way(alloc, cuts, exit, steps, met, t, false, or_else, all)
+    walk_way(alloc, course, met, t, true, then, all)?;
+    walk_way(alloc, course, met, t, false, or_else, all)
 }
 
 // Adds the paths of the walks by the outcomes of a test in which it is true, or false.
 #[cycle(walk)]
 fn walk_way(
     alloc: Global,
-    cuts: &[u32],
-    exit: u32,
-    steps: u64,
+    course: Course<'_>,
     met: &Met,
     t: &Test,
     way: bool,
@@ -352,34 +328,32 @@ fn walk_way(
 ) -> Result<(), PathRefusal>
     requires is_open { test_is_open t.now ≡ true }
     requires rest { AreWalkable (rest_of rest.now) }
-    requires ends { list_any (goes_on (suc steps) cuts.now exit) (by_each (outcomes t.now way met.now.store) met.now.literals met.now.store (rest_of rest.now)) ≡ false }
-    ensures { Adds (flat_map (walks steps cuts.now exit) (by_each (outcomes t.now way met.now.store) met.now.literals met.now.store (rest_of rest.now))) all.old all.new result }
+    requires ends { list_any (goes_on (suc course.steps) course.cuts.now course.exit) (by_each (outcomes t.now way met.now.store) met.now.literals met.now.store (rest_of rest.now)) ≡ false }
+    ensures { Adds (flat_map (walks course.entry.steps course.entry.cuts.now course.entry.exit) (by_each (outcomes t.now way met.now.store) met.now.literals met.now.store (rest_of rest.now))) all.old all.new result }
 {
     if is_too_large(met, t, way) {
         return Err(PathRefusal::Limit(LimitKind::PathNodes));
     }
     let found = outcomes(alloc, t, way, &met.store)?;
-    walk_each(alloc, cuts, exit, steps, met, found.as_slice(), rest, all)
+    walk_each(alloc, course, met, found.as_slice(), rest, all)
 }
 
 // Adds the paths of the walks by each of these outcomes, in order.
 #[cycle(walk)]
 fn walk_each(
     alloc: Global,
-    cuts: &[u32],
-    exit: u32,
-    steps: u64,
+    course: Course<'_>,
     met: &Met,
     found: &[Items<Literal>],
     rest: &[Stretch<'_>],
     all: &mut Items<Path>,
 ) -> Result<(), PathRefusal>
     requires rest { AreWalkable (rest_of rest.now) }
-    requires ends { list_any (goes_on (suc steps) cuts.now exit) (by_each found.now met.now.literals met.now.store (rest_of rest.now)) ≡ false }
-    ensures { Adds (flat_map (walks steps cuts.now exit) (by_each found.now met.now.literals met.now.store (rest_of rest.now))) all.old all.new result }
+    requires ends { list_any (goes_on (suc course.steps) course.cuts.now course.exit) (by_each found.now met.now.literals met.now.store (rest_of rest.now)) ≡ false }
+    ensures { Adds (flat_map (walks course.entry.steps course.entry.cuts.now course.entry.exit) (by_each found.now met.now.literals met.now.store (rest_of rest.now))) all.old all.new result }
 {
     for outcome in found {
-        walk_outcome(alloc, cuts, exit, steps, met, outcome.as_slice(), rest, all)?;
+        walk_outcome(alloc, course, met, outcome.as_slice(), rest, all)?;
     }
     Ok(())
 }
@@ -388,20 +362,18 @@ fn walk_each(
 #[cycle(walk)]
 fn walk_outcome(
     alloc: Global,
-    cuts: &[u32],
-    exit: u32,
-    steps: u64,
+    course: Course<'_>,
     met: &Met,
     outcome: &[Literal],
     rest: &[Stretch<'_>],
     all: &mut Items<Path>,
 ) -> Result<(), PathRefusal>
     requires rest { AreWalkable (rest_of rest.now) }
-    requires ends { goes_on (suc steps) cuts.now exit (stands (met.now.literals ++ outcome.now) met.now.store (rest_of rest.now)) ≡ false }
-    ensures { Adds (walks steps cuts.now exit (stands (met.now.literals ++ outcome.now) met.now.store (rest_of rest.now))) all.old all.new result }
+    requires ends { goes_on (suc course.steps) course.cuts.now course.exit (stands (met.now.literals ++ outcome.now) met.now.store (rest_of rest.now)) ≡ false }
+    ensures { Adds (walks course.entry.steps course.entry.cuts.now course.entry.exit (stands (met.now.literals ++ outcome.now) met.now.store (rest_of rest.now))) all.old all.new result }
 {
     match met.with(alloc, outcome) {
-        Ok(next) => walk(alloc, cuts, exit, steps, next, rest, all),
+        Ok(next) => walk(alloc, course, next, rest, all),
         Err(e) => Err(e),
     }
 }
