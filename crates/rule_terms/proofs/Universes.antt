@@ -29,10 +29,10 @@ store_is s t h = (store_decides s t).0 (eq_equal (store_cmp s t) h)
 store_self : (s : StoreTerm) → store_same s s ≡ true
 store_self s = ap is_eq ((store_decides s s).1 refl)
 
-value_is : (v w : ValueTerm) → value_same v w ≡ true → v ≡ w
+pub value_is : (v w : ValueTerm) → value_same v w ≡ true → v ≡ w
 value_is v w h = (value_decides v w).0 (eq_equal (value_cmp v w) h)
 
-value_self : (v : ValueTerm) → value_same v v ≡ true
+pub value_self : (v : ValueTerm) → value_same v v ≡ true
 value_self v = ap is_eq ((value_decides v v).1 refl)
 
 test_is : (a b : ℕ × StoreTerm) → test_same a b ≡ true → a ≡ b
@@ -109,6 +109,13 @@ stores_once ob ps ss once e =
     moved store_same store_is store_self ss (stores_near ob.conditions ps) (stores_near ob.conditions (obligation_parts ob))
     (subst (λ xs. Holds store_same store_is store_self xs (stores_near ob.conditions ps)) (sym e) (holds_all store_same store_is store_self _ _ _ start))
     (near_stores ob.conditions ps (obligation_parts ob) w.0) (near_stores ob.conditions (obligation_parts ob) ps w.1)
+
+-- the store terms that the code builds are all different
+pub stores_apart : (found ss : List StoreTerm) → ss ≡ added_all store_same (left_store ∷ right_store ∷ []) found → AllPairs (λ a b. a ≢ b) ss
+stores_apart found ss e =
+    let start : Holds store_same store_is store_self (left_store ∷ right_store ∷ []) (left_store ∷ right_store ∷ []) =
+    record { to = within_itself _; back = within_itself _; once = two_apart left_store right_store sides_differ } in
+    subst (AllPairs (λ a b. a ≢ b)) (sym e) (holds_all store_same store_is store_self _ _ found start).once
 
 values_once : (ob : Obligation) (ps : List Part) (ss : List StoreTerm) (vs : List ValueTerm) → ListsOnce ps (obligation_parts ob) → ListsOnce ss (universe_stores ob)
     → vs ≡ added_all value_same (num (pos 0) ∷ num (pos 1) ∷ []) (values_among ps ++ flat_map (λ s. flat_map (reading s) ps) ss)

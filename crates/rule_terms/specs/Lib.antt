@@ -1,6 +1,7 @@
 pub mod Added
 pub mod Counts
 pub mod Least
+pub mod NewReadings
 pub mod Order
 pub mod Parts
 pub mod Substitute

@@ -1,19 +1,20 @@
 //! The universe of an obligation: the terms that its laws speak of, each once.
 //! `specs/Universe.antt` says which these are.
 
-ghost use Rattle.std.specs.Prelude.{◌≡◌, ◌==◌, ◌&&◌, ◌↔◌, pos, [], ◌∷◌, ◌++◌, map, IfOk, OnOk, IsTrue};
+ghost use Rattle.std.specs.Prelude.{◌≡◌, ◌≢◌, ◌==◌, ◌&&◌, ◌↔◌, pos, [], ◌∷◌, ◌++◌, map, AllPairs, IfOk, OnOk, IsTrue};
 ghost use Rattle.std.specs.List.{flat_map, list_any};
 ghost use Rattle.rule_terms.specs.Term.{left_store, right_store, num};
 ghost use Rattle.rule_terms.specs.Parts.{stores_among, values_among};
 ghost use Rattle.rule_terms.specs.Order.{store_same, value_same, test_same};
-ghost use Rattle.rule_terms.specs.Added.{added, added_all};
+ghost use Rattle.rule_terms.specs.Added.{added, added_all, not_in};
+ghost use Rattle.rule_terms.specs.NewReadings.{new_reading, new_readings};
 ghost use Rattle.rule_terms.specs.Universe.{exchanged, reading, test_of, IsUniverse};
 ghost use Rattle.rule_terms.specs.Walked.{part_of};
 
 use crate::copy::{copy_stores, copy_values};
 use crate::exchange::add_all_exchanged;
 use crate::gather::{
-    add_stores, add_value, add_values, different_parts, stores_among, values_among,
+    add_stores, add_values, different_parts, has_value, stores_among, values_among,
 };
 use crate::obligation::Obligation;
 use crate::part::Part;
@@ -79,27 +80,40 @@ fn all_stores(
     Ok(stores)
 }
 
-// Adds what a part reads of a store, if it is not there.
-#[tactic(auto, unfolding(crate::specs::Added::added_all))]
-fn add_reading(
+// Puts a value term at the end, if the base does not hold it.
+#[tactic(auto, unfolding(crate::specs::Added::not_in))]
+fn put_new(base: &[ValueTerm], v: ValueTerm, more: &mut Items<ValueTerm>) -> Result<(), NoMemory>
+    ensures { OnOk result (more.new ≡ more.old ++ not_in value_same base.now (v ∷ [])) }
+{
+    if has_value(base, &v) {
+        return Ok(());
+    }
+    more.push(v)?;
+    Ok(())
+}
+
+// Puts what a part reads of a store at the end, if the base does not hold it.
+#[tactic(auto, using(crate::proofs::Gathering::nothing_more), unfolding(crate::specs::Added::not_in))]
+fn put_reading(
     alloc: Global,
+    base: &[ValueTerm],
     s: &StoreTerm,
     part: &Part<'_>,
-    values: &mut Items<ValueTerm>,
+    more: &mut Items<ValueTerm>,
 ) -> Result<(), NoMemory>
-    ensures { OnOk result (values.new ≡ added_all value_same values.old (reading s.now (part_of part.now))) }
+    ensures { OnOk result (more.new ≡ more.old ++ new_reading base.now s.now (part_of part.now)) }
 {
     match part {
         Part::Place(p) => {
             let p = p.copy(alloc)?;
             let s = s.copy(alloc)?;
             let v = ValueTerm::get(alloc, p, s)?;
-            add_value(values, v)
+            put_new(base, v, more)
         }
         Part::Expr(k) => {
             let s = s.copy(alloc)?;
             let v = ValueTerm::ev(alloc, *k, s)?;
-            add_value(values, v)
+            put_new(base, v, more)
         }
         Part::Store(_) => Ok(()),
         Part::Value(_) => Ok(()),
@@ -107,51 +121,54 @@ fn add_reading(
     }
 }
 
-// Adds what the parts read of a store.
-#[tactic(auto, unfolding(crate::specs::Added::added_all))]
-fn add_readings(
+// Puts what the parts read of a store at the end, where the base does not hold it.
+fn put_readings(
     alloc: Global,
+    base: &[ValueTerm],
     s: &StoreTerm,
     parts: &[Part<'_>],
-    values: &mut Items<ValueTerm>,
+    more: &mut Items<ValueTerm>,
 ) -> Result<(), NoMemory>
-    ensures { OnOk result (values.new ≡ added_all value_same values.old (flat_map (reading s.now) (map part_of parts.now))) }
+    ensures { OnOk result (more.new ≡ more.old ++ new_readings base.now (map part_of parts.now) s.now) }
 {
     for part in parts {
-        add_reading(alloc, s, part, values)?;
+        put_reading(alloc, base, s, part, more)?;
     }
     Ok(())
 }
 
-// Adds what the parts read of each store.
-#[tactic(auto, unfolding(crate::specs::Added::added_all))]
-fn add_all_readings(
+// What the parts read of each store and the base does not hold. Different parts read different terms of
+// different stores, so only the base is looked through.
+fn readings_beyond(
     alloc: Global,
+    base: &[ValueTerm],
     stores: &[StoreTerm],
     parts: &[Part<'_>],
-    values: &mut Items<ValueTerm>,
-) -> Result<(), NoMemory>
-    ensures { OnOk result (values.new ≡ added_all value_same values.old (flat_map (λ s. flat_map (reading s) (map part_of parts.now)) stores.now)) }
+) -> Result<Items<ValueTerm>, NoMemory>
+    ensures { IfOk result (λ more. more ≡ flat_map (new_readings base.now (map part_of parts.now)) stores.now) }
 {
+    let mut more = Items::new(alloc);
     for s in stores {
-        add_readings(alloc, s, parts, values)?;
+        put_readings(alloc, base, s, parts, &mut more)?;
     }
-    Ok(())
+    Ok(more)
 }
 
 // The value terms of a universe, from its store terms and the different parts of the obligation.
-#[tactic(auto, using(crate::proofs::Members::added_append))]
 fn all_values(
     alloc: Global,
     stores: &[StoreTerm],
     parts: &[Part<'_>],
 ) -> Result<Items<ValueTerm>, NoMemory>
+    requires stores { AllPairs (λ a b. a ≢ b) stores.now }
+    requires parts { AllPairs (λ a b. a ≢ b) (map part_of parts.now) }
     ensures { IfOk result (λ vs. vs ≡ added_all value_same (num (pos 0) ∷ num (pos 1) ∷ []) (values_among (map part_of parts.now) ++ flat_map (λ s. flat_map (reading s) (map part_of parts.now)) stores.now)) }
 {
     let found = values_among(alloc, parts)?;
     let mut values = zero_and_one(alloc)?;
     add_values(alloc, &mut values, found.as_slice())?;
-    add_all_readings(alloc, stores, parts, &mut values)?;
+    let more = readings_beyond(alloc, values.as_slice(), stores, parts)?;
+    values.append(more)?;
     Ok(values)
 }
 
@@ -238,6 +255,7 @@ fn universe_of(
     conditions: &[Condition],
     parts: &[Part<'_>],
 ) -> Result<TermUniverse, NoMemory>
+    requires { AllPairs (λ a b. a ≢ b) (map part_of parts.now) }
     ensures stores { IfOk result (λ u. u.stores ≡ added_all store_same (left_store ∷ right_store ∷ []) (stores_among (map part_of parts.now) ++ flat_map (exchanged conditions.now) (stores_among (map part_of parts.now)))) }
     ensures values { IfOk result (λ u. u.values ≡ added_all value_same (num (pos 0) ∷ num (pos 1) ∷ []) (values_among (map part_of parts.now) ++ flat_map (λ s. flat_map (reading s) (map part_of parts.now)) u.stores)) }
     ensures tests { IfOk result (λ u. u.tests ≡ added_all test_same [] (flat_map (λ s. flat_map (test_of s) (map part_of parts.now)) u.stores)) }
