@@ -9,6 +9,7 @@ pub mod Members
 pub mod Nexts
 pub mod Opens
 pub mod Orders
+pub mod Sorting
 pub mod Substitutions
 pub mod Universes
 pub mod Walks

@@ -10,30 +10,23 @@ ghost use Rattle.rule_terms.specs.Universe.{ListsOnce};
 ghost use Rattle.rule_terms.specs.Walked.{part_of};
 
 use crate::obligation::Obligation;
-use crate::part::{Part, next_part};
+use crate::part::{Part, compare_parts};
 use crate::term::{StoreTerm, ValueTerm};
+use crate::walk::put_obligation;
 use sqlite_items::Items;
 use std::alloc::Global;
+use std::cmp::Ordering;
 use toy_imp::NoMemory;
 
-/// Puts a part at the end.
-fn push_part<'a>(parts: &mut Vec<Part<'a>>, part: Part<'a>) -> Result<(), NoMemory>
-    ensures { OnOk result (map part_of parts.new.items ≡ map part_of parts.old.items ++ part_of part.entry ∷ []) }
-{
-    parts.push(part)?;
-    Ok(())
-}
-
-/// What occurs in an obligation, each part once and in increasing order.
+/// What occurs in an obligation, each part once and in increasing order. The parts that a walk meets are sorted,
+/// so that equal ones stand together.
 pub fn different_parts<'a>(alloc: Global, ob: &'a Obligation) -> Result<Vec<Part<'a>>, NoMemory>
     ensures { IfOk result (λ parts. ListsOnce (map part_of parts.items) (obligation_parts ob.now)) }
 {
     let mut parts = Vec::new(alloc);
-    let mut last = None;
-    while let Some(part) = next_part(ob, last) {
-        push_part(&mut parts, part)?;
-        last = Some(part);
-    }
+    put_obligation(ob, &mut parts)?;
+    parts.sort_unstable_by(|p, q| compare_parts(*p, *q));
+    parts.dedup_by(|p, q| compare_parts(*p, *q) == Ordering::Equal);
     Ok(parts)
 }
 

@@ -16,6 +16,7 @@ mod size;
 mod tally;
 mod term;
 mod term_universe;
+mod walk;
 
 pub use expression::{number_of, value_at, values_at};
 pub use obligation::{Atom, Conjunct, Literal, Obligation, copy_conjuncts, copy_literals};

@@ -29,7 +29,7 @@ pub enum Part<'a> {
 
 /// Whether a part is before another one, equal to it or behind it.
 #[tactic(auto, unfolding(crate::specs::Order::part_cmp))]
-fn compare_parts(p: Part<'_>, q: Part<'_>) -> Ordering
+pub fn compare_parts(p: Part<'_>, q: Part<'_>) -> Ordering
     ensures { result ≡ part_cmp (part_of p.entry) (part_of q.entry) }
 {
     match (p, q) {
