@@ -2,7 +2,7 @@
 //! A line `system N` begins one over N variables, a line `LEFT RIGHT BY` is a row of it, and `end`
 //! solves it. Prints how many have a point, how many a cycle, and a sum of all that was answered.
 
-ghost use Rattle.std.specs.Prelude.{◌≤◌, ◌^◌, All, IfOk, IfSome, OnOk};
+ghost use Rattle.std.specs.Prelude.{◌≤◌, All, IfOk};
 ghost use Rattle.diff_prover.specs.Row.{IsRowOver};
 
 use anyhow::{Context, Result, bail};

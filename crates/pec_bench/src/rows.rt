@@ -2,7 +2,7 @@
 //! another. A line `system N` begins one over N variables, a line `A B .. <= C` is a row of it with N coefficients, and
 //! `end` eliminates. Prints how many have a point, how many are empty, and how many pass a limit.
 
-ghost use Rattle.std.specs.Prelude.{◌≡◌, ◌≤◌, ◌^◌, All, IfOk, IsTrue, unsigned_abs};
+ghost use Rattle.std.specs.Prelude.{◌≡◌, ◌≤◌, ◌^◌, All, IfOk, unsigned_abs};
 ghost use Rattle.std.specs.List.{list_all};
 ghost use Rattle.linear_rows.specs.Fractions.{is_small};
 ghost use Rattle.linear_rows.specs.Row.{IsRowOver};
