@@ -12,7 +12,7 @@ use Rattle.toy_imp.specs.declared.rule.CutList.{CutList}
 use Rattle.toy_imp.specs.declared.rule.CutList.TheVariants.{Default, Listed}
 use Rattle.rule_terms.specs.declared.path.Path.{Path}
 use Rattle.rule_terms.specs.declared.path.Stop.{Stop}
-use Rattle.rule_terms.specs.declared.path.Stop.TheVariants.{At, Stuck}
+use Rattle.rule_terms.specs.declared.path.Stop.TheVariants.{At, Halted, Stuck}
 use Rattle.rule_terms.specs.declared.tally.LimitKind.{LimitKind}
 use Rattle.rule_terms.specs.declared.tally.LimitKind.TheVariants.{Entries}
 use Rattle.path_pairs.specs.declared.cut_points.CutPoints.{CutPoints}
@@ -113,9 +113,10 @@ pair_may rule p q true h =
 
 meet_may : (rule : Rule) (l r : Stop) → list_all (may_be_entry rule) (stops_meet (rule_table rule) l r) ≡ true
 meet_may rule (At p) (At q) = pair_may rule p q (alike_kinds (kind_at (point_kinds rule.left) p) (kind_at (point_kinds rule.right) q)) refl
-meet_may rule (At p) Stuck = refl
-meet_may rule Stuck (At q) = refl
-meet_may rule Stuck Stuck = refl
+meet_may rule (At p) Halted = refl
+meet_may rule Halted (At q) = refl
+meet_may rule (Stuck k) (At q) = refl
+meet_may rule l r = refl
 
 right_may : (rule : Rule) (l : Stop) (rights : List Path) → list_all (may_be_entry rule) (right_meetings (rule_table rule) l rights) ≡ true
 unfolding right_meetings

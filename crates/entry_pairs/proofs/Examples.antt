@@ -98,7 +98,7 @@ ends_1 = Ends (run 1 left_store)
 
 from_parameter : side_paths (stmt s empty) (0 ∷ 1 ∷ 2 ∷ []) left_store 1
     ≡ record { literals = record { sign = true; atom = ends_1 } ∷ []; store = run 1 left_store; stop = At 2 }
-    ∷ record { literals = record { sign = false; atom = ends_1 } ∷ []; store = run 1 left_store; stop = Stuck } ∷ []
+    ∷ record { literals = record { sign = false; atom = ends_1 } ∷ []; store = left_store; stop = Stuck 1 } ∷ []
 unfolding outcomes stmt_step walks side_paths
 from_parameter = refl
 

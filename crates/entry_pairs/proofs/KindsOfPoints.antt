@@ -2,12 +2,12 @@
 use Rattle.std.specs.Prelude.{◌≡◌, ℕ, zero, suc, ◌+◌, ◌≤◌, false, cond, List, [], ◌∷◌, ◌++◌, map, flat_map, length, slice_index_or, refl}
 use Rattle.std.proofs.Common.{sym, ◌∙◌, ap, arith}
 use Rattle.std.proofs.lemmas.List.{map-append, length-append}
-use Rattle.toy_imp.specs.Block.{Stmt, skip, put, if_then, while_do, for_to, let_in, par_stmt, Block, empty, stmt}
+use Rattle.toy_imp.specs.Block.{Stmt, skip, put, assert_that, if_then, while_do, for_to, let_in, par_stmt, Block, empty, stmt}
 use Rattle.toy_imp.specs.Points.{stmt_count, point_count, exit_point}
 use Rattle.toy_imp.specs.declared.rule.Rule.{Rule}
 use Rattle.rule_terms.specs.declared.path.Path.{Path}
 use Rattle.rule_terms.specs.declared.path.Stop.{Stop}
-use Rattle.rule_terms.specs.declared.path.Stop.TheVariants.{At, Stuck}
+use Rattle.rule_terms.specs.declared.path.Stop.TheVariants.{At, Halted, Stuck}
 use Rattle.entry_pairs.specs.declared.point_kinds.PointKind.{PointKind}
 use Rattle.entry_pairs.specs.declared.point_kinds.PointKind.TheVariants.{Loop, Par, Other}
 use Rattle.path_pairs.specs.Rests.{Rest, stretch, stmt_rests, block_rests, rests, rest_at}
@@ -19,6 +19,7 @@ mutual
   stmt_kinds_are : (n : ℕ) (s : Stmt) (here behind : Rest) → rest_kind here ≡ stmt_kind s → map rest_kind (stmt_rests n s here behind) ≡ stmt_kinds s
   stmt_kinds_are n skip here behind e = refl
   stmt_kinds_are n (put x is v) here behind e = refl
+  stmt_kinds_are n (assert_that t) here behind e = refl
   stmt_kinds_are n (if_then t b c) here behind e =
       map-append rest_kind (block_rests n b behind) (block_rests (n + point_count b) c behind)
       ∙ (λ i. block_kinds_are n b behind i ++ block_kinds_are (n + point_count b) c behind i)
@@ -51,6 +52,7 @@ kind_at_is side p = ap (λ kinds. kind_at kinds p) (sym (point_kinds_are side)) 
 alike_by_kinds : (a c : Stmt) → alike_kinds (stmt_kind a) (stmt_kind c) ≡ alike_stmts a c
 alike_by_kinds skip skip = refl
 alike_by_kinds (put x is e) skip = refl
+alike_by_kinds (assert_that t) skip = refl
 alike_by_kinds (if_then t b d) skip = refl
 alike_by_kinds (while_do t b) (while_do u d) = refl
 alike_by_kinds (while_do t b) (par_stmt k) = refl
@@ -83,9 +85,10 @@ alike_points rule p q = (λ i. alike_kinds (kind_at_is rule.left p i) (kind_at_i
 
 meet_is : (rule : Rule) (l r : Stop) → stops_meet (rule_table rule) l r ≡ stops_alike rule l r
 meet_is rule (At p) (At q) = ap (λ b. cond b ((p, q) ∷ []) []) (alike_points rule p q)
-meet_is rule (At p) Stuck = refl
-meet_is rule Stuck (At q) = refl
-meet_is rule Stuck Stuck = refl
+meet_is rule (At p) Halted = refl
+meet_is rule Halted (At q) = refl
+meet_is rule (Stuck k) (At q) = refl
+meet_is rule l r = refl
 
 right_meetings_are : (rule : Rule) (l : Stop) (rights : List Path) → right_meetings (rule_table rule) l rights ≡ flat_map (λ r. stops_alike rule l r.stop) rights
 unfolding right_meetings
@@ -102,6 +105,7 @@ mutual
   few_stmt_kinds : (s : Stmt) → length (stmt_kinds s) ≤ stmt_count s
   few_stmt_kinds skip = omega arith
   few_stmt_kinds (put x is e) = omega arith
+  few_stmt_kinds (assert_that t) = omega arith
   few_stmt_kinds (if_then t b c) = omega (arith, length-append (block_kinds b) (block_kinds c), few_kinds b, few_kinds c)
   few_stmt_kinds (while_do t b) = omega (arith, few_kinds b)
   few_stmt_kinds (for_to x lo hi b) = omega arith

@@ -2,7 +2,7 @@
 -- They come from the rule's list of cuts, or by default are found along the paths; or the first limit is met.
 use Rattle.std.specs.Prelude.{ℕ, zero, suc, ◌+◌, ◌*◌, ◌==◌, Bool, true, false, cond, ◌||◌, List, [], ◌∷◌, ◌++◌, map, flat_map, filter, length, nat_lt, slice_get, Option, Some, None, Result, Ok, Err, if◌then◌else◌}
 use Rattle.std.specs.List.{list_any, range_with_len}
-use Rattle.toy_imp.specs.Block.{Stmt, skip, put, if_then, while_do, for_to, let_in, par_stmt, Block, empty, stmt}
+use Rattle.toy_imp.specs.Block.{Stmt, skip, put, assert_that, if_then, while_do, for_to, let_in, par_stmt, Block, empty, stmt}
 use Rattle.toy_imp.specs.Points.{stmt_count, point_count, exit_point}
 use Rattle.toy_imp.specs.Faults.{same_pair}
 use Rattle.toy_imp.specs.declared.rule.Rule.{Rule}
@@ -24,6 +24,7 @@ abbrev mutual
   pub stmt_has_par : Stmt → Bool
   stmt_has_par skip = false
   stmt_has_par (put x is e) = false
+  stmt_has_par (assert_that t) = false
   stmt_has_par (if_then t b c) = has_par b || has_par c
   stmt_has_par (while_do t b) = has_par b
   stmt_has_par (for_to x lo hi b) = has_par b
@@ -39,6 +40,7 @@ abbrev mutual
   pub stmt_cuts : ℕ → Stmt → List ℕ
   stmt_cuts n skip = []
   stmt_cuts n (put x is e) = []
+  stmt_cuts n (assert_that t) = []
   stmt_cuts n (if_then t b c) = default_cuts n b ++ default_cuts (n + point_count b) c
   stmt_cuts n (while_do t b) = cond (has_par b) [] (n ∷ []) ++ default_cuts (suc n) b
   stmt_cuts n (for_to x lo hi b) = default_cuts n b

@@ -1,7 +1,7 @@
 -- What kind of statement stands next at a point: all that is asked where points are compared.
 -- The kinds of all points stand in one list, in order; `point_kinds_are` of proofs/KindsOfPoints.antt says that it is theirs.
 use Rattle.std.specs.Prelude.{ℕ, ◌==◌, Bool, true, false, cond, List, [], ◌∷◌, ◌++◌, flat_map, slice_index_or}
-use Rattle.toy_imp.specs.Block.{Stmt, skip, put, if_then, while_do, for_to, let_in, par_stmt, Block, empty, stmt}
+use Rattle.toy_imp.specs.Block.{Stmt, skip, put, assert_that, if_then, while_do, for_to, let_in, par_stmt, Block, empty, stmt}
 use Rattle.rule_terms.specs.declared.path.Path.{Path}
 use Rattle.rule_terms.specs.declared.path.Stop.{Stop}
 use Rattle.rule_terms.specs.declared.path.Stop.TheVariants.{At}
@@ -25,6 +25,7 @@ abbrev mutual
   pub stmt_kinds : Stmt → List PointKind
   stmt_kinds skip = []
   stmt_kinds (put x is e) = []
+  stmt_kinds (assert_that t) = []
   stmt_kinds (if_then t b c) = block_kinds b ++ block_kinds c
   stmt_kinds (while_do t b) = Loop ∷ block_kinds b
   stmt_kinds (for_to x lo hi b) = []

@@ -68,7 +68,7 @@ fn push_stmt(all: &mut Items<u32>, s: &Stmt, after: u32) -> Result<Found, NoMemo
     ensures cuts { IfOk result (λ found. all.new ≡ all.old ++ reverse (stmt_cuts found.first s.now)) }
 {
     match &s.node {
-        StmtNode::Skip | StmtNode::Put(_, _, _) => Ok(Found {
+        StmtNode::Skip | StmtNode::Put(_, _, _) | StmtNode::Assert(_) => Ok(Found {
             first: after,
             has_par: false,
         }),

@@ -1,6 +1,6 @@
 -- A nest of loops runs as the list of its turns in running order, by recursion on the nest.
 -- All along, a fact about stores is kept: that the counters round the loops and the symbols have their values.
-use Rattle.std.specs.Prelude.{◌≡◌, ◌≢◌, ℤ, List, [], ◌∷◌, ◌++◌, map, All, AllPairs, Some, Contains, refl}
+use Rattle.std.specs.Prelude.{◌≡◌, ◌≢◌, ◌⊎◌, ℤ, List, [], ◌∷◌, ◌++◌, map, All, AllPairs, Some, Contains, refl}
 use Rattle.std.specs.List.{flat_map}
 use Rattle.std.proofs.Common.{sym, ◌∙◌, ap, ap₂, subst, inl, inr, zero, suc, arith}
 use Rattle.std.proofs.lemmas.List.Elements.{All-contains}
@@ -12,11 +12,11 @@ use Rattle.toy_imp.specs.Expr.{Expr, num}
 use Rattle.toy_imp.specs.Block.{let_in, Block, empty, stmt, append}
 use Rattle.toy_imp.specs.Keeps.{KeepsExpr, KeepsName, ExprIgnores}
 use Rattle.toy_imp.specs.Swaps.{set_round}
-use Rattle.toy_imp.specs.Run.{Item, act, restore, before, step}
-use Rattle.toy_imp.specs.Ends.{Reaches, Ends}
+use Rattle.toy_imp.specs.Run.{Item, act, restore, before, step, Outcome, ended, halted}
+use Rattle.toy_imp.specs.Ends.{Reaches, ComesOut, Ends, Halts}
 use Rattle.toy_imp.proofs.Cases.{step-let, value-num, run-done}
-use Rattle.toy_imp.proofs.Runs.{Through, through, reaches_through, before-append, before-split}
-use Rattle.toy_imp.proofs.Alikes.{append-empty, append-assoc}
+use Rattle.toy_imp.proofs.Runs.{Through, through, halts_through, reaches_through, reaches_halt, never_both, before-append, before-split}
+use Rattle.toy_imp.proofs.Alikes.{append-empty, append-assoc, append_work}
 use Rattle.toy_imp.proofs.Stores.{write_is_read, write_keeps_others, write-write, write-read}
 use Rattle.iteration_order.specs.declared.bounds.Bounds.{Bounds}
 use Rattle.iteration_order.specs.Affine.{value_at}
@@ -33,19 +33,38 @@ pub record AppendEnds (p q : Block) (s t : Store) : Type 0 where
   pub first : Ends p s middle
   pub second : Ends q middle t
 
-append_work : (p q : Block) → before (append p q) [] ≡ before p [] ++ before q []
-append_work p q = before-append p q [] ∙ before-split p (before q [])
-
 append_ends : (p q : Block) (s t : Store) → Ends (append p q) s t → AppendEnds p q s t
 append_ends p q s t r =
-    let way : Through (before p []) (before q []) s t = through (before p []) (before q []) s t (subst (λ w. Reaches w s t) (append_work p q) r) in
+    let way : Through (before p []) (before q []) s (ended t) = through (before p []) (before q []) s t (subst (λ w. Reaches w s (ended t)) (append_work p q) r) in
     record { middle = way.between; first = way.front; second = way.rear }
 
 ends_append : (p q : Block) (s t : Store) → AppendEnds p q s t → Ends (append p q) s t
-ends_append p q s t e = subst (λ w. Reaches w s t) (sym (append_work p q)) (reaches_through (before p []) (before q []) s e.middle t e.first e.second)
+ends_append p q s t e = subst (λ w. Reaches w s (ended t)) (sym (append_work p q)) (reaches_through (before p []) (before q []) s e.middle (ended t) e.first e.second)
+
+-- .. and where they halt: in the first, or behind it in the second
+record SecondHalts (p q : Block) (s t : Store) : Type 0 where
+  middle : Store
+  first : Ends p s middle
+  second : Halts q middle t
+
+append_halts : (p q : Block) (s t : Store) → Halts (append p q) s t → Halts p s t ⊎ SecondHalts p q s t
+append_halts p q s t r =
+    elim (halts_through (before p []) (before q []) s t (subst (λ w. Reaches w s (halted t)) (append_work p q) r)) [
+      | inl front ↦ inl front
+      | inr way ↦ inr (record { middle = way.between; first = way.front; second = way.rear })
+    ]
+
+first_halts : (p q : Block) (s t : Store) → Halts p s t → Halts (append p q) s t
+first_halts p q s t r = subst (λ w. Reaches w s (halted t)) (sym (append_work p q)) (reaches_halt (before p []) (before q []) s t r)
+
+second_halts : (p q : Block) (s t : Store) → SecondHalts p q s t → Halts (append p q) s t
+second_halts p q s t e = subst (λ w. Reaches w s (halted t)) (sym (append_work p q)) (reaches_through (before p []) (before q []) s e.middle (halted t) e.first e.second)
 
 empty_ends : (s t : Store) → Ends empty s t → s ≡ t
-empty_ends s t r = let e : Some s ≡ Some t = sym (run-done r.steps s) ∙ r.reached in cc
+empty_ends s t r = let e : Some (ended s) ≡ Some (ended t) = sym (run-done r.steps s) ∙ r.reached in cc
+
+never_halts : {A : Type 0} (s t : Store) → Reaches [] s (halted t) → A
+never_halts s t r = never_both [] s s t (record { steps = 0; reached = run-done 0 s }) r
 
 ends_empty : (s t : Store) → s ≡ t → Ends empty s t
 ends_empty s t e = subst (λ u. Ends empty s u) e (record { steps = 0; reached = run-done 0 s })
@@ -64,24 +83,57 @@ step-set_to x k p s work = step-let x (num k) p s work ∙ ap (λ z. record { st
 
 let_ends : (x : Name) (k : ℤ) (p : Block) (s t : Store) → Ends (set_to x k p) s t → LetEnds x k p s t
 let_ends x k p s t r =
-    let stepped : Reaches (before p (restore x (read s (variable x)) ∷ [])) (write s (variable x) k) t = after_step _ _ s t _ (step-set_to x k p s []) r in
-    let way : Through (before p []) (restore x (read s (variable x)) ∷ []) (write s (variable x) k) t =
-    through _ _ _ t (subst (λ w. Reaches w (write s (variable x) k) t) (before-split p (restore x (read s (variable x)) ∷ [])) stepped) in
+    let stepped : Reaches (before p (restore x (read s (variable x)) ∷ [])) (write s (variable x) k) (ended t) = after_step _ _ s (ended t) _ (step-set_to x k p s []) r in
+    let way : Through (before p []) (restore x (read s (variable x)) ∷ []) (write s (variable x) k) (ended t) =
+    through _ _ _ t (subst (λ w. Reaches w (write s (variable x) k) (ended t)) (before-split p (restore x (read s (variable x)) ∷ [])) stepped) in
     record {
       middle = way.between;
       inside = way.front;
-      is = empty_ends _ t (after_step _ _ way.between t _ (step-given_back x (read s (variable x)) way.between []) way.rear);
+      is = empty_ends _ t (after_step _ _ way.between (ended t) _ (step-given_back x (read s (variable x)) way.between []) way.rear);
     }
 
 ends_let : (x : Name) (k : ℤ) (p : Block) (s t : Store) → LetEnds x k p s t → Ends (set_to x k p) s t
 ends_let x k p s t e =
-    let rear : Reaches (restore x (read s (variable x)) ∷ []) e.middle t =
-    before_step _ _ e.middle t _ (step-given_back x (read s (variable x)) e.middle []) (ends_empty _ t e.is) in
-    let whole : Reaches (before p [] ++ restore x (read s (variable x)) ∷ []) (write s (variable x) k) t = reaches_through _ _ _ e.middle t e.inside rear in
-    before_step _ _ s t _ (step-set_to x k p s [])
-    (subst (λ w. Reaches w (write s (variable x) k) t) (sym (before-split p (restore x (read s (variable x)) ∷ []))) whole)
+    let rear : Reaches (restore x (read s (variable x)) ∷ []) e.middle (ended t) =
+    before_step _ _ e.middle (ended t) _ (step-given_back x (read s (variable x)) e.middle []) (ends_empty _ t e.is) in
+    let whole : Reaches (before p [] ++ restore x (read s (variable x)) ∷ []) (write s (variable x) k) (ended t) = reaches_through _ _ _ e.middle (ended t) e.inside rear in
+    before_step _ _ s (ended t) _ (step-set_to x k p s [])
+    (subst (λ w. Reaches w (write s (variable x) k) (ended t)) (sym (before-split p (restore x (read s (variable x)) ∷ []))) whole)
 
--- ---- blocks that end alike from one store
+-- a halt inside is a halt of the whole, in the same store: nothing is given back
+let_halts : (x : Name) (k : ℤ) (p : Block) (s t : Store) → Halts (set_to x k p) s t → Halts p (write s (variable x) k) t
+let_halts x k p s t r =
+    let r0 = read s (variable x) in
+    let stepped : Reaches (before p (restore x r0 ∷ [])) (write s (variable x) k) (halted t) = after_step _ _ s (halted t) _ (step-set_to x k p s []) r in
+    elim (halts_through (before p []) (restore x r0 ∷ []) (write s (variable x) k) t (subst (λ w. Reaches w (write s (variable x) k) (halted t)) (before-split p (restore x r0 ∷ [])) stepped)) [
+      | inl front ↦ front
+      | inr way ↦ never_halts _ t (after_step _ _ way.between (halted t) _ (step-given_back x r0 way.between []) way.rear)
+    ]
+
+halts_let : (x : Name) (k : ℤ) (p : Block) (s t : Store) → Halts p (write s (variable x) k) t → Halts (set_to x k p) s t
+halts_let x k p s t r =
+    let r0 = read s (variable x) in
+    before_step _ _ s (halted t) _ (step-set_to x k p s [])
+    (subst (λ w. Reaches w (write s (variable x) k) (halted t)) (sym (before-split p (restore x r0 ∷ []))) (reaches_halt (before p []) (restore x r0 ∷ []) _ t r))
+
+-- ---- blocks that end and halt alike from one store
+by_outcome : (P : Outcome → Type 0) → ((t : Store) → P (ended t)) → ((t : Store) → P (halted t)) → (o : Outcome) → P o
+by_outcome P ends halts (ended t) = ends t
+by_outcome P ends halts (halted t) = halts t
+
+-- from how they end and how they halt
+record Alikeness (s : Store) (p q : Block) : Type 0 where
+  ends : (t : Store) → Ends p s t → Ends q s t
+  back : (t : Store) → Ends q s t → Ends p s t
+  halts : (t : Store) → Halts p s t → Halts q s t
+  halts_back : (t : Store) → Halts q s t → Halts p s t
+
+alike_from : (s : Store) (p q : Block) → Alikeness s p q → SameFrom s p q
+alike_from s p q a = record {
+  to = by_outcome (λ o. ComesOut p s o → ComesOut q s o) a.ends a.halts;
+  back = by_outcome (λ o. ComesOut q s o → ComesOut p s o) a.back a.halts_back;
+}
+
 from_self : (s : Store) (p : Block) → SameFrom s p p
 from_self s p = record { to = λ t r. r; back = λ t r. r }
 
@@ -99,15 +151,24 @@ abbrev SameIn : (Store → Type 0) → Block → Block → Type 0
 SameIn I p q = (s : Store) → I s → SameFrom s p q
 
 append_same : (I : Store → Type 0) (p q c d : Block) → SameIn I p q → Keeps I q → SameIn I c d → SameIn I (append p c) (append q d)
-append_same I p q c d same keeps rest s i = record {
-  to = λ t r.
+append_same I p q c d same keeps rest s i = alike_from s _ _ (record {
+  ends = λ t r.
       let e = append_ends p c s t r in
-      let first = (same s i).to e.middle e.first in
-      ends_append q d s t (record { middle = e.middle; first = first; second = (rest e.middle (keeps s e.middle i first)).to t e.second });
+      let first = (same s i).to (ended e.middle) e.first in
+      ends_append q d s t (record { middle = e.middle; first = first; second = (rest e.middle (keeps s e.middle i first)).to (ended t) e.second });
   back = λ t r.
       let e = append_ends q d s t r in
-      ends_append p c s t (record { middle = e.middle; first = (same s i).back e.middle e.first; second = (rest e.middle (keeps s e.middle i e.first)).back t e.second });
-}
+      ends_append p c s t (record { middle = e.middle; first = (same s i).back (ended e.middle) e.first; second = (rest e.middle (keeps s e.middle i e.first)).back (ended t) e.second });
+  halts = λ t r. elim (append_halts p c s t r) [
+    | inl h ↦ first_halts q d s t ((same s i).to (halted t) h)
+    | inr e ↦ let first = (same s i).to (ended e.middle) e.first in
+        second_halts q d s t (record { middle = e.middle; first = first; second = (rest e.middle (keeps s e.middle i first)).to (halted t) e.second })
+  ];
+  halts_back = λ t r. elim (append_halts q d s t r) [
+    | inl h ↦ first_halts p c s t ((same s i).back (halted t) h)
+    | inr e ↦ second_halts p c s t (record { middle = e.middle; first = (same s i).back (ended e.middle) e.first; second = (rest e.middle (keeps s e.middle i e.first)).back (halted t) e.second })
+  ];
+})
 
 joined_keeps : {A : Type 0} (I : Store → Type 0) (f : A → Block) (xs : List A) → ((x : A) → Keeps I (f x)) → Keeps I (joined f xs)
 joined_keeps I f [] each s t i r = subst I (empty_ends s t r) i
@@ -116,14 +177,16 @@ joined_keeps I f (x ∷ xs) each s t i r =
     joined_keeps I f xs each e.middle t (each x s e.middle i e.first) e.second
 
 let_same : (I J : Store → Type 0) (x : Name) (k : ℤ) (p q : Block) → ((s : Store) → I s → J (write s (variable x) k)) → SameIn J p q → SameIn I (set_to x k p) (set_to x k q)
-let_same I J x k p q into same s i = record {
-  to = λ t r.
+let_same I J x k p q into same s i = alike_from s _ _ (record {
+  ends = λ t r.
       let e = let_ends x k p s t r in
-      ends_let x k q s t (record { middle = e.middle; inside = (same _ (into s i)).to e.middle e.inside; is = e.is });
+      ends_let x k q s t (record { middle = e.middle; inside = (same _ (into s i)).to (ended e.middle) e.inside; is = e.is });
   back = λ t r.
       let e = let_ends x k q s t r in
-      ends_let x k p s t (record { middle = e.middle; inside = (same _ (into s i)).back e.middle e.inside; is = e.is });
-}
+      ends_let x k p s t (record { middle = e.middle; inside = (same _ (into s i)).back (ended e.middle) e.inside; is = e.is });
+  halts = λ t r. halts_let x k q s t ((same _ (into s i)).to (halted t) (let_halts x k p s t r));
+  halts_back = λ t r. halts_let x k p s t ((same _ (into s i)).back (halted t) (let_halts x k q s t r));
+})
 
 let_keeps : (I : Store → Type 0) (x : Name) (k : ℤ) (p : Block) → ((s : Store) (w : ℤ) → I s → I (write s (variable x) w)) → Keeps I p → Keeps I (set_to x k p)
 let_keeps I x k p closed keeps s t i r =
@@ -135,12 +198,14 @@ set_back : (x : Name) (k : ℤ) (s : Store) → write (write s (variable x) k) (
 set_back x k s = write-write s (variable x) k (read s (variable x)) ∙ write-read s (variable x)
 
 let_empty : (x : Name) (k : ℤ) (s : Store) → SameFrom s (set_to x k empty) empty
-let_empty x k s = record {
-  to = λ t r.
+let_empty x k s = alike_from s _ _ (record {
+  ends = λ t r.
       let e = let_ends x k empty s t r in
       ends_empty s t (sym (set_back x k s) ∙ ap (λ u. write u (variable x) (read s (variable x))) (empty_ends _ _ e.inside) ∙ e.is);
   back = λ t r. ends_let x k empty s t (record { middle = write s (variable x) k; inside = ends_empty _ _ refl; is = set_back x k s ∙ empty_ends s t r });
-}
+  halts = λ t r. never_halts _ t (let_halts x k empty s t r);
+  halts_back = λ t r. never_halts _ t r;
+})
 
 -- a `let` round two blocks, of which the first keeps what was set, is one round each
 set_again : (x : Name) (k r : ℤ) (m : Store) → read m (variable x) ≡ k → write (write m (variable x) r) (variable x) k ≡ m
@@ -177,8 +242,34 @@ module _ (x : Name) (k : ℤ) (p c : Block) (keeps : Keeps (λ s. read s (variab
         is = ap (write f.middle (variable x)) value_back ∙ f.is;
       })
 
+  split_halts : (t : Store) → Halts (set_to x k (append p c)) s t → Halts (append (set_to x k p) (set_to x k c)) s t
+  split_halts t r = elim (append_halts p c (write s (variable x) k) t (let_halts x k (append p c) s t r)) [
+    | inl h ↦ first_halts (set_to x k p) (set_to x k c) s t (halts_let x k p s t h)
+    | inr a ↦
+        let r0 = read s (variable x) in
+        let held : read a.middle (variable x) ≡ k = keeps _ a.middle (write_is_read s (variable x) k) a.first in
+        let between = write a.middle (variable x) r0 in
+        second_halts (set_to x k p) (set_to x k c) s t (record {
+          middle = between;
+          first = ends_let x k p s between (record { middle = a.middle; inside = a.first; is = refl });
+          second = halts_let x k c between t (subst (λ u. Halts c u t) (sym (set_again x k r0 a.middle held)) a.second);
+        })
+  ]
+
+  split_halts_back : (t : Store) → Halts (append (set_to x k p) (set_to x k c)) s t → Halts (set_to x k (append p c)) s t
+  split_halts_back t r = elim (append_halts (set_to x k p) (set_to x k c) s t r) [
+    | inl h ↦ halts_let x k (append p c) s t (first_halts p c _ t (let_halts x k p s t h))
+    | inr a ↦
+        let r0 = read s (variable x) in
+        let e = let_ends x k p s a.middle a.first in
+        let held : read e.middle (variable x) ≡ k = keeps _ e.middle (write_is_read s (variable x) k) e.inside in
+        let again : write a.middle (variable x) k ≡ e.middle = ap (λ u. write u (variable x) k) (sym e.is) ∙ set_again x k r0 e.middle held in
+        halts_let x k (append p c) s t
+        (second_halts p c _ t (record { middle = e.middle; first = e.inside; second = subst (λ u. Halts c u t) again (let_halts x k c a.middle t a.second) }))
+  ]
+
   let_splits : SameFrom s (set_to x k (append p c)) (append (set_to x k p) (set_to x k c))
-  let_splits = record { to = split_to; back = split_back }
+  let_splits = alike_from s _ _ (record { ends = split_to; back = split_back; halts = split_halts; halts_back = split_halts_back })
 
 let_joined : {A : Type 0} (I : Store → Type 0) (x : Name) (k : ℤ) (f : A → Block) (ts : List A) → ((t : A) → Keeps (λ s. read s (variable x) ≡ k) (f t)) →
     ((t : A) → Keeps I (set_to x k (f t))) → SameIn I (set_to x k (joined f ts)) (joined (λ t. set_to x k (f t)) ts)

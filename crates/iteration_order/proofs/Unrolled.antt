@@ -9,7 +9,7 @@ use Rattle.toy_imp.specs.Store.{Store, read, write}
 use Rattle.toy_imp.specs.Value.{value}
 use Rattle.toy_imp.specs.Expr.{Expr, num}
 use Rattle.toy_imp.specs.Block.{for_to, let_in, Block}
-use Rattle.toy_imp.specs.Run.{Item, act, turns, restore, before, Done, step}
+use Rattle.toy_imp.specs.Run.{Item, act, turns, restore, before, Done, step, Outcome}
 use Rattle.toy_imp.specs.Ends.{Reaches, Alike}
 use Rattle.toy_imp.proofs.Cases.{step-let, step-for, value-num}
 use Rattle.toy_imp.proofs.Runs.{reaches_next, next_reaches}
@@ -21,10 +21,10 @@ use Rattle.iteration_order.specs.Loops.{turn_at, LoopIsItsTurns}
 use Rattle.iteration_order.proofs.Ranges.{or_zero-positive, turns-none}
 
 -- ---- one step, whose outcome is known
-pub after_step : (item : Item) (work : List Item) (s t : Store) (d : Done) → step item s work ≡ d → Reaches (item ∷ work) s t → Reaches d.work d.store t
+pub after_step : (item : Item) (work : List Item) (s : Store) (t : Outcome) (d : Done) → step item s work ≡ d → Reaches (item ∷ work) s t → Reaches d.work d.store t
 after_step item work s t d e r = subst (λ d. Reaches d.work d.store t) e (next_reaches item work s t r)
 
-pub before_step : (item : Item) (work : List Item) (s t : Store) (d : Done) → step item s work ≡ d → Reaches d.work d.store t → Reaches (item ∷ work) s t
+pub before_step : (item : Item) (work : List Item) (s : Store) (t : Outcome) (d : Done) → step item s work ≡ d → Reaches d.work d.store t → Reaches (item ∷ work) s t
 before_step item work s t d e r = reaches_next item work s t (subst (λ d. Reaches d.work d.store t) (sym e) r)
 
 step-turn : (x : Name) (k hi : ℤ) (b : Block) (s : Store) (work : List Item) → int_lt k hi ≡ true →
@@ -97,7 +97,7 @@ module _ (x : Name) (hi : ℤ) (b : Block) (v : ℤ) where
       (λ (le : hi ≤ℤ low). subst (λ ks. Alike (loop_work low) (let_work ks)) (sym (turns-none low hi le)) (no_turn low (grind (arith, ints))))
 
 module _ (x : Name) (low high : Expr) (b : Block) (s : Store) where
-  loop_to : (t : Store) → Reaches (act (for_to x low high b) ∷ []) s t → Reaches (before (joined (turn_at x b) (turns_between (value low s) (value high s))) []) s t
+  loop_to : (t : Outcome) → Reaches (act (for_to x low high b) ∷ []) s t → Reaches (before (joined (turn_at x b) (turns_between (value low s) (value high s))) []) s t
   unfolding loop_work let_work
   loop_to t r =
       let v = read s (variable x) in
@@ -106,7 +106,7 @@ module _ (x : Name) (low high : Expr) (b : Block) (s : Store) where
       subst (λ u. Reaches (before (joined (turn_at x b) (turns_between (value low s) (value high s))) []) u t) (write-read s (variable x))
       (after_step _ _ s t _ (step-given_back x v s (before (joined (turn_at x b) (turns_between (value low s) (value high s))) [])) turned)
 
-  loop_back : (t : Store) → Reaches (before (joined (turn_at x b) (turns_between (value low s) (value high s))) []) s t → Reaches (act (for_to x low high b) ∷ []) s t
+  loop_back : (t : Outcome) → Reaches (before (joined (turn_at x b) (turns_between (value low s) (value high s))) []) s t → Reaches (act (for_to x low high b) ∷ []) s t
   unfolding loop_work let_work
   loop_back t r =
       let v = read s (variable x) in

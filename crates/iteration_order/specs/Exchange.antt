@@ -1,11 +1,12 @@
--- When a list of blocks may run in another order: any two blocks whose order is reversed end alike in both orders.
+-- When a list of blocks may run in another order: any two blocks whose order is reversed end and halt alike in both orders.
 -- This is the heart of reordered loops, since a loop runs as the list of its turns.
 -- As an example take the loop `for i = 0 to 3 { a[i] := a[i] + 1; }` and its turns 0, 1 and 2, to be run backward as 2, 1, 0.
 -- Three pairs of turns are reversed: 0 and 1, 0 and 2, 1 and 2. The turns of each pair write different cells, so they end alike
 -- in both orders, and the law says that the loop and its reversal end in the same stores. Had the body been `a[i + 1] := a[i];`,
 -- turn 1 would read what turn 0 writes, the pair 0 and 1 would not end alike, and the law would say nothing. Where only the
 -- turns 1 and 2 change places, as in 0, 2, 1, they alone must end alike in both orders.
--- Blocks may never end: what is shown is that each side ends in a store exactly where the other does.
+-- Blocks may never end: what is shown is that each side ends, and halts, in a store exactly where the other does. Two blocks that may
+-- halt seldom do so alike in both orders, since the store at the halt shows which came first; quiet ones do where they end alike.
 use Rattle.std.specs.Prelude.{◌≡◌, ◌≢◌, ℕ, ◌<◌, List, [], ◌∷◌, length, slice_index_or, Contains, AllPairs}
 use Rattle.std.specs.List.{range_with_len}
 use Rattle.toy_imp.specs.Block.{Block, empty, append}
@@ -16,7 +17,7 @@ abbrev pub joined : {A : Type 0} → (A → Block) → List A → Block
 joined block [] = empty
 joined block (x ∷ xs) = append (block x) (joined block xs)
 
--- two blocks end alike in both orders
+-- two blocks end and halt alike in both orders
 pub record Swap (p q : Block) : Type 0 where
   pub same : Same (append p q) (append q p)
 

@@ -9,23 +9,24 @@ use Rattle.toy_imp.specs.Expr.{Expr}
 use Rattle.toy_imp.specs.Block.{for_to, Block, empty, stmt}
 use Rattle.toy_imp.specs.Keeps.{KeepsExpr, KeepsName, ExprIgnores}
 use Rattle.toy_imp.specs.Swaps.{set_round}
-use Rattle.toy_imp.specs.Ends.{Ends}
+use Rattle.toy_imp.specs.Run.{Outcome}
+use Rattle.toy_imp.specs.Ends.{ComesOut}
 use Rattle.iteration_order.specs.declared.affine.Affine.{Affine}
 use Rattle.iteration_order.specs.declared.bounds.Bounds.{Bounds}
 use Rattle.iteration_order.specs.Affine.{value_at}
 use Rattle.iteration_order.specs.RunningOrder.{turns_between, running_order}
 use Rattle.iteration_order.specs.Exchange.{joined}
 
--- from one store, two blocks end alike
+-- from one store, two blocks end alike and halt alike
 pub record SameFrom (s : Store) (p q : Block) : Type 0 where
-  pub to : (t : Store) → Ends p s t → Ends q s t
-  pub back : (t : Store) → Ends q s t → Ends p s t
+  pub to : (o : Outcome) → ComesOut p s o → ComesOut q s o
+  pub back : (o : Outcome) → ComesOut q s o → ComesOut p s o
 
 -- `let x = v { b }`
 abbrev pub turn_at : Name → Block → ℤ → Block
 turn_at x b v = set_round (x ∷ []) (v ∷ []) b
 
--- from each store, `for x = low to high { b }` ends as its turns do, with the bounds' values in that store
+-- from each store, `for x = low to high { b }` ends and halts as its turns do, with the bounds' values in that store
 abbrev pub LoopIsItsTurns : Type 0
 LoopIsItsTurns = (x : Name) (low high : Expr) (b : Block) (s : Store) → SameFrom s (stmt (for_to x low high b) empty) (joined (turn_at x b) (turns_between (value low s) (value high s)))
 
@@ -62,7 +63,7 @@ pub record IsSteady (counters : List Name) (symbols : List Expr) (b : Block) : T
   pub symbols_kept : All (λ e. KeepsExpr b e) symbols
   pub symbols_ignore : All (λ e. All (λ x. ExprIgnores e x) counters) symbols
 
--- from each store, such a nest ends as its turns do, in running order, with the symbols' values in that store
+-- from each store, such a nest ends and halts as its turns do, in running order, with the symbols' values in that store
 abbrev pub NestIsItsTurns : Type 0
 NestIsItsTurns = (loops : List Loop) (nest : List Bounds) (symbols : List Expr) (b : Block) → HaveBounds [] symbols loops nest → IsSteady (counters_of loops) symbols b → (s : Store) →
     SameFrom s (nest_round loops b) (joined (λ t. set_round (counters_of loops) t b) (running_order nest (map (λ e. value e s) symbols)))

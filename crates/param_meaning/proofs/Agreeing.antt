@@ -9,7 +9,7 @@ use Rattle.toy_imp.specs.declared.param.Kind.TheVariants as kind
 use Rattle.toy_imp.specs.declared.instance.Instance.{Instance}
 use Rattle.toy_imp.specs.Expr.{Expr, num, at, add, sub, mul, par_expr, Exprs, no_exprs, expr}
 use Rattle.toy_imp.specs.Test.{Test, less, less_eq, equal, not_of, and_of, or_of, par_test}
-use Rattle.toy_imp.specs.Block.{Stmt, skip, put, if_then, while_do, for_to, let_in, par_stmt, Block, empty, stmt, append}
+use Rattle.toy_imp.specs.Block.{Stmt, skip, put, assert_that, if_then, while_do, for_to, let_in, par_stmt, Block, empty, stmt, append}
 use Rattle.toy_imp.specs.Fill.{name_by, expr_by, test_by, block_by, fill_name, fill_expr, fill_exprs, fill_test, fill_stmt, fill}
 use Rattle.param_meaning.specs.FillLaws.{StandsAlike}
 use Rattle.param_meaning.specs.Occurs.{OccursInName, OccursInExpr, OccursInExprs, OccursInTest, OccursInStmt, Occurs}
@@ -57,6 +57,7 @@ mutual
   stmt_filled_alike : (i j : Instance) (s : Stmt) (p q : Block) → ((c : Kind) (k : ℕ) → OccursInStmt c k s → StandsAlike i j c k) → p ≡ q → fill_stmt i s p ≡ fill_stmt j s q
   stmt_filled_alike i j skip p q h r = ap (stmt skip) r
   stmt_filled_alike i j (put x es e) p q h r = λ t. stmt (put (name_filled_alike i j x (λ c k o. h c k (inl o)) t) (exprs_filled_alike i j es (λ c k o. h c k (inr (inl o))) t) (expr_filled_alike i j e (λ c k o. h c k (inr (inr o))) t)) (r t)
+  stmt_filled_alike i j (assert_that u) p q h r = λ t. stmt (assert_that (test_filled_alike i j u h t)) (r t)
   stmt_filled_alike i j (if_then u b d) p q h r = λ t. stmt (if_then (test_filled_alike i j u (λ c k o. h c k (inl o)) t) (filled_alike i j b (λ c k o. h c k (inr (inl o))) t) (filled_alike i j d (λ c k o. h c k (inr (inr o))) t)) (r t)
   stmt_filled_alike i j (while_do u b) p q h r = λ t. stmt (while_do (test_filled_alike i j u (λ c k o. h c k (inl o)) t) (filled_alike i j b (λ c k o. h c k (inr o)) t)) (r t)
   stmt_filled_alike i j (for_to x lo hi b) p q h r = λ t. stmt (for_to (name_filled_alike i j x (λ c k o. h c k (inl o)) t) (expr_filled_alike i j lo (λ c k o. h c k (inr (inl o))) t) (expr_filled_alike i j hi (λ c k o. h c k (inr (inr (inl o)))) t) (filled_alike i j b (λ c k o. h c k (inr (inr (inr o)))) t)) (r t)

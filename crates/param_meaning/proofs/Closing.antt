@@ -15,7 +15,7 @@ use Rattle.toy_imp.specs.declared.instance.Filling.TheVariants as filling
 use Rattle.toy_imp.specs.declared.instance.Instance.{Instance}
 use Rattle.toy_imp.specs.Expr.{Expr, num, at, add, sub, mul, par_expr, Exprs, no_exprs, expr}
 use Rattle.toy_imp.specs.Test.{Test, less, less_eq, equal, not_of, and_of, or_of, par_test}
-use Rattle.toy_imp.specs.Block.{Stmt, skip, put, if_then, while_do, for_to, let_in, par_stmt, Block, empty, stmt, append}
+use Rattle.toy_imp.specs.Block.{Stmt, skip, put, assert_that, if_then, while_do, for_to, let_in, par_stmt, Block, empty, stmt, append}
 use Rattle.toy_imp.specs.Fill.{name_by, expr_by, test_by, block_by, block_at, fill_name, fill_expr, fill_exprs, fill_test, fill_stmt, fill}
 use Rattle.toy_imp.specs.Fits.{fits_kind, fits_params, fits}
 use Rattle.toy_imp.specs.Program.{is_own, is_closed, are_closed, is_closed_test, is_closed_stmt, is_program}
@@ -79,6 +79,7 @@ mutual
   stmt_closed i (put x es e) rest h r = and_from (is_own (fill_name i x) && (are_closed (fill_exprs i es) && is_closed (fill_expr i e))) (is_program rest)
       (and_from (is_own (fill_name i x)) (are_closed (fill_exprs i es) && is_closed (fill_expr i e)) (name_closed i x (λ c k o. h c k (inl o)))
       (and_from (are_closed (fill_exprs i es)) (is_closed (fill_expr i e)) (exprs_closed i es (λ c k o. h c k (inr (inl o)))) (expr_closed i e (λ c k o. h c k (inr (inr o)))))) r
+  stmt_closed i (assert_that t) rest h r = and_from (is_closed_test (fill_test i t)) (is_program rest) (test_closed i t h) r
   stmt_closed i (if_then t b d) rest h r = and_from (is_closed_test (fill_test i t) && (is_program (fill i b) && is_program (fill i d))) (is_program rest)
       (and_from (is_closed_test (fill_test i t)) (is_program (fill i b) && is_program (fill i d)) (test_closed i t (λ c k o. h c k (inl o)))
       (and_from (is_program (fill i b)) (is_program (fill i d)) (block_closed i b (λ c k o. h c k (inr (inl o)))) (block_closed i d (λ c k o. h c k (inr (inr o)))))) r

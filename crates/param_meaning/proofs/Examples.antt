@@ -10,7 +10,7 @@ use Rattle.toy_imp.specs.Store.{Store, read}
 use Rattle.toy_imp.specs.Value.{value}
 use Rattle.toy_imp.specs.Expr.{Expr, num, at, add, sub, mul, par_expr, no_exprs, expr}
 use Rattle.toy_imp.specs.Test.{Test, less, less_eq, equal, not_of, and_of, or_of, par_test}
-use Rattle.toy_imp.specs.Block.{Stmt, skip, put, if_then, while_do, for_to, let_in, par_stmt, Block, empty, stmt}
+use Rattle.toy_imp.specs.Block.{Stmt, skip, put, assert_that, if_then, while_do, for_to, let_in, par_stmt, Block, empty, stmt}
 use Rattle.toy_imp.specs.Fill.{fill_name, fill_expr, fill_exprs, fill_test, fill_stmt, fill}
 use Rattle.param_meaning.specs.Covers.{covers}
 use Rattle.param_meaning.specs.Each.{each_in_expr, each_in_exprs, each_in_test, each_in_stmt, each_in}

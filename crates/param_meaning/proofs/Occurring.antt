@@ -9,7 +9,7 @@ use Rattle.toy_imp.specs.declared.param.Kind.{Kind}
 use Rattle.toy_imp.specs.declared.param.Kind.TheVariants as kind
 use Rattle.toy_imp.specs.Expr.{Expr, num, at, add, sub, mul, par_expr, Exprs, no_exprs, expr}
 use Rattle.toy_imp.specs.Test.{Test, less, less_eq, equal, not_of, and_of, or_of, par_test}
-use Rattle.toy_imp.specs.Block.{Stmt, skip, put, if_then, while_do, for_to, let_in, par_stmt, Block, empty, stmt}
+use Rattle.toy_imp.specs.Block.{Stmt, skip, put, assert_that, if_then, while_do, for_to, let_in, par_stmt, Block, empty, stmt}
 use Rattle.param_meaning.specs.Each.{each_in_name, each_in_expr, each_in_exprs, each_in_test, each_in_stmt, each_in}
 use Rattle.param_meaning.specs.Occurs.{OccursInName, OccursInExpr, OccursInExprs, OccursInTest, OccursInStmt, Occurs}
 
@@ -55,6 +55,7 @@ mutual
   stmt_occurring q skip h c k o = absurd o
   stmt_occurring q (put x es e) h c k o = part (each_in_name q x) (each_in_exprs q es && each_in_expr q e) (q c k) h (λ p. name_occurring q x p c k)
       (λ r. part (each_in_exprs q es) (each_in_expr q e) (q c k) r (λ p. exprs_occurring q es p c k) (λ p. expr_occurring q e p c k)) o
+  stmt_occurring q (assert_that t) h c k o = test_occurring q t h c k o
   stmt_occurring q (if_then t b d) h c k o = part (each_in_test q t) (each_in q b && each_in q d) (q c k) h (λ p. test_occurring q t p c k)
       (λ r. part (each_in q b) (each_in q d) (q c k) r (λ p. occurring q b p c k) (λ p. occurring q d p c k)) o
   stmt_occurring q (while_do t b) h c k o = part (each_in_test q t) (each_in q b) (q c k) h (λ p. test_occurring q t p c k) (λ p. occurring q b p c k) o
@@ -106,6 +107,7 @@ mutual
   stmt_each q skip h = refl
   stmt_each q (put x es e) h = and_from (each_in_name q x) (each_in_exprs q es && each_in_expr q e) (name_each q x (λ c k o. h c k (inl o)))
       (and_from (each_in_exprs q es) (each_in_expr q e) (exprs_each q es (λ c k o. h c k (inr (inl o)))) (expr_each q e (λ c k o. h c k (inr (inr o)))))
+  stmt_each q (assert_that t) h = test_each q t h
   stmt_each q (if_then t b d) h = and_from (each_in_test q t) (each_in q b && each_in q d) (test_each q t (λ c k o. h c k (inl o)))
       (and_from (each_in q b) (each_in q d) (each q b (λ c k o. h c k (inr (inl o)))) (each q d (λ c k o. h c k (inr (inr o)))))
   stmt_each q (while_do t b) h = and_from (each_in_test q t) (each_in q b) (test_each q t (λ c k o. h c k (inl o))) (each q b (λ c k o. h c k (inr o)))

@@ -8,7 +8,7 @@ use Rattle.toy_imp.specs.declared.name.Name.TheVariants.{Own, Par}
 use Rattle.toy_imp.specs.declared.instance.Instance.{Instance}
 use Rattle.toy_imp.specs.Expr.{Expr, num, at, add, sub, mul, par_expr, Exprs, no_exprs, expr}
 use Rattle.toy_imp.specs.Test.{Test, less, less_eq, equal, not_of, and_of, or_of, par_test}
-use Rattle.toy_imp.specs.Block.{Stmt, skip, put, if_then, while_do, for_to, let_in, par_stmt, Block, empty, stmt}
+use Rattle.toy_imp.specs.Block.{Stmt, skip, put, assert_that, if_then, while_do, for_to, let_in, par_stmt, Block, empty, stmt}
 use Rattle.toy_imp.specs.Fill.{fill_name, fill_expr, fill_exprs, fill_test, fill_stmt, fill}
 use Rattle.toy_imp.specs.Program.{is_own, is_closed, are_closed, is_closed_test, is_closed_stmt, is_program}
 
@@ -51,6 +51,7 @@ mutual
       let name : (is_own x ≡ true) × ((are_closed es && is_closed e) ≡ true) = and_parts (is_own x) (are_closed es && is_closed e) h in
       let value : (are_closed es ≡ true) × (is_closed e ≡ true) = and_parts (are_closed es) (is_closed e) name.1 in
       λ t. stmt (put (name_stays i x name.0 t) (exprs_stay i es value.0 t) (expr_stays i e value.1 t)) (r t)
+  stmt_stays i (assert_that u) p q h r = λ t. stmt (assert_that (test_stays i u h t)) (r t)
   stmt_stays i (if_then u b d) p q h r =
       let test : (is_closed_test u ≡ true) × ((is_program b && is_program d) ≡ true) = and_parts (is_closed_test u) (is_program b && is_program d) h in
       let blocks : (is_program b ≡ true) × (is_program d ≡ true) = and_parts (is_program b) (is_program d) test.1 in

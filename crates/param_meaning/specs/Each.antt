@@ -7,7 +7,7 @@ use Rattle.toy_imp.specs.declared.param.Kind.{Kind}
 use Rattle.toy_imp.specs.declared.param.Kind.TheVariants as kind
 use Rattle.toy_imp.specs.Expr.{Expr, num, at, add, sub, mul, par_expr, Exprs, no_exprs, expr}
 use Rattle.toy_imp.specs.Test.{Test, less, less_eq, equal, not_of, and_of, or_of, par_test}
-use Rattle.toy_imp.specs.Block.{Stmt, skip, put, if_then, while_do, for_to, let_in, par_stmt, Block, empty, stmt}
+use Rattle.toy_imp.specs.Block.{Stmt, skip, put, assert_that, if_then, while_do, for_to, let_in, par_stmt, Block, empty, stmt}
 
 abbrev pub each_in_name : (Kind → ℕ → Bool) → Name → Bool
 each_in_name q (Own bytes) = true
@@ -39,6 +39,7 @@ unfoldable mutual
   pub each_in_stmt : (Kind → ℕ → Bool) → Stmt → Bool
   each_in_stmt q skip = true
   each_in_stmt q (put x is e) = each_in_name q x && (each_in_exprs q is && each_in_expr q e)
+  each_in_stmt q (assert_that t) = each_in_test q t
   each_in_stmt q (if_then t b c) = each_in_test q t && (each_in q b && each_in q c)
   each_in_stmt q (while_do t b) = each_in_test q t && each_in q b
   each_in_stmt q (for_to x lo hi b) = each_in_name q x && (each_in_expr q lo && (each_in_expr q hi && each_in q b))

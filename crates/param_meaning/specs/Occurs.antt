@@ -7,7 +7,7 @@ use Rattle.toy_imp.specs.declared.param.Kind.{Kind}
 use Rattle.toy_imp.specs.declared.param.Kind.TheVariants as kind
 use Rattle.toy_imp.specs.Expr.{Expr, num, at, add, sub, mul, par_expr, Exprs, no_exprs, expr}
 use Rattle.toy_imp.specs.Test.{Test, less, less_eq, equal, not_of, and_of, or_of, par_test}
-use Rattle.toy_imp.specs.Block.{Stmt, skip, put, if_then, while_do, for_to, let_in, par_stmt, Block, empty, stmt}
+use Rattle.toy_imp.specs.Block.{Stmt, skip, put, assert_that, if_then, while_do, for_to, let_in, par_stmt, Block, empty, stmt}
 
 abbrev pub OccursInName : Kind → ℕ → Name → Type 0
 OccursInName c k (Own bytes) = ⊥
@@ -39,6 +39,7 @@ abbrev mutual
   pub OccursInStmt : Kind → ℕ → Stmt → Type 0
   OccursInStmt c k skip = ⊥
   OccursInStmt c k (put x is e) = OccursInName c k x ⊎ (OccursInExprs c k is ⊎ OccursInExpr c k e)
+  OccursInStmt c k (assert_that t) = OccursInTest c k t
   OccursInStmt c k (if_then t b d) = OccursInTest c k t ⊎ (Occurs c k b ⊎ Occurs c k d)
   OccursInStmt c k (while_do t b) = OccursInTest c k t ⊎ Occurs c k b
   OccursInStmt c k (for_to x lo hi b) = OccursInName c k x ⊎ (OccursInExpr c k lo ⊎ (OccursInExpr c k hi ⊎ Occurs c k b))

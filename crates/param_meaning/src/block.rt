@@ -37,6 +37,7 @@ fn fill_stmt(alloc: Global, s: &Stmt, by: &Instance) -> Result<Block, NoMemory>
     match &s.node {
         StmtNode::Skip => just(alloc, Stmt::skip()),
         StmtNode::Put(x, indices, e) => fill_put(alloc, x, indices.as_slice(), e, by),
+        StmtNode::Assert(t) => fill_assert(alloc, t, by),
         StmtNode::If(t, b, c) => {
             let b = fill(alloc, b, by)?;
             let c = fill(alloc, c, by)?;
@@ -81,6 +82,13 @@ fn fill_put(
     let indices = fill_exprs(alloc, indices, by)?;
     let e = fill_expr(alloc, e, by)?;
     just(alloc, Stmt::put(x, indices, e))
+}
+
+fn fill_assert(alloc: Global, t: &Test, by: &Instance) -> Result<Block, NoMemory>
+    ensures { IfOk result (λ s. s ≡ stmt (assert_that (fill_test by.now t.now)) empty) }
+{
+    let t = fill_test(alloc, t, by)?;
+    just(alloc, Stmt::assert_that(t))
 }
 
 fn fill_if(alloc: Global, t: &Test, b: Block, c: Block, by: &Instance) -> Result<Block, NoMemory>

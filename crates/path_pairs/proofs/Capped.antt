@@ -1,7 +1,7 @@
 -- What is counted up to a bound: it makes no difference whether what is counted behind is cut off at the bound too.
 use Rattle.std.specs.Prelude.{◌≡◌, ℕ, suc, ◌+◌, ◌*◌, ◌-◌, ◌^◌, min, max, Bool, true, false, cond, List, refl}
 use Rattle.std.proofs.Common.{sym, ◌∙◌, ap, arith}
-use Rattle.toy_imp.specs.Block.{Stmt, skip, put, if_then, while_do, for_to, let_in, par_stmt, Block, empty, stmt}
+use Rattle.toy_imp.specs.Block.{Stmt, skip, put, assert_that, if_then, while_do, for_to, let_in, par_stmt, Block, empty, stmt}
 use Rattle.toy_imp.specs.Points.{stmt_count, point_count}
 use Rattle.path_pairs.specs.OutcomeCounts.{outcome_count}
 use Rattle.path_pairs.specs.Walks.{is_cut}
@@ -25,6 +25,7 @@ mutual
   pub capped_stmt : (cuts : List ℕ) (n : ℕ) (a : Stmt) (m : ℕ) → min 65 (stmt_steps cuts n a (min 65 m)) ≡ min 65 (stmt_steps cuts n a m)
   capped_stmt cuts n skip m = omega arith
   capped_stmt cuts n (put x is v) m = omega arith
+  capped_stmt cuts n (assert_that t) m = omega arith
   capped_stmt cuts n (if_then t b c) m = capped_if _ _ _ _ (capped cuts n b m) (capped cuts (n + point_count b) c m)
   capped_stmt cuts n (while_do t b) m = capped_loop (is_cut cuts n) (passes cuts (suc n) b) (most_steps cuts (suc n) b 0) m
   capped_stmt cuts n (for_to x lo hi b) m = refl
@@ -83,6 +84,7 @@ mutual
   pub saturated_stmt : (cuts : List ℕ) (n : ℕ) (a : Stmt) (m : ℕ) → saturated (stmt_walks cuts n a (saturated m)) ≡ saturated (stmt_walks cuts n a m)
   saturated_stmt cuts n skip m = omega arith
   saturated_stmt cuts n (put x is v) m = omega arith
+  saturated_stmt cuts n (assert_that t) m = saturated_first (outcome_count t true) (outcome_count t false) m 1
   saturated_stmt cuts n (if_then t b c) m =
       same_each (outcome_count t true) (outcome_count t false) _ _ _ _ (saturated_block cuts n b m) (saturated_block cuts (n + point_count b) c m)
   saturated_stmt cuts n (while_do t b) m = saturated_loop (is_cut cuts n) (outcome_count t true) (outcome_count t false) (walk_count cuts (suc n) b 0) m

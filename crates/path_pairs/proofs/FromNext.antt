@@ -7,7 +7,7 @@ use Rattle.toy_imp.specs.BlockView.{block_of}
 use Rattle.toy_imp.specs.Faults.{stmt_has_scope, has_scope}
 use Rattle.path_pairs.specs.Open.{stmt_is_open, block_is_open}
 use Rattle.path_pairs.specs.declared.stretch.Stretch as code
-use Rattle.toy_imp.specs.Block.{Stmt, skip, put, if_then, while_do, for_to, let_in, par_stmt, Block, empty, stmt}
+use Rattle.toy_imp.specs.Block.{Stmt, skip, put, assert_that, if_then, while_do, for_to, let_in, par_stmt, Block, empty, stmt}
 use Rattle.toy_imp.specs.Points.{stmt_count, point_count}
 use Rattle.rule_terms.specs.Counts.{saturated}
 use Rattle.path_pairs.specs.Along.{most_steps, stmt_steps, rest_steps, walk_count, stmt_walks, rest_walks, stmt_onward, rest_onward, stmt_branches, rest_branches}
@@ -23,7 +23,7 @@ use Rattle.path_pairs.specs.Walks.{stmt_stop, rest_stop, stmt_step, rest_step}
 use Rattle.path_pairs.proofs.WalkSteps.{or_false}
 use Rattle.path_pairs.proofs.RestsAt.{whole_rest}
 use Rattle.path_pairs.proofs.Stopping.{or_neither}
-use Rattle.path_pairs.proofs.Capped.{capped, capped_stmt, saturated_block, saturated_stmt, saturated_each}
+use Rattle.path_pairs.proofs.Capped.{capped, capped_stmt, saturated_block, saturated_stmt, saturated_each, saturated_first}
 
 pub walkable_next : (rest : Rest) → AreWalkable rest → AreWalkable (from_next rest)
 walkable_next [] h = h
@@ -99,6 +99,7 @@ pub capped_onward : (cuts : List ℕ) (n : ℕ) (a : Stmt) (m : ℕ)
     → min 65 (stmt_onward cuts n a (min 65 (stmt_steps cuts n a (min 65 m))) (min 65 m)) ≡ min 65 (stmt_onward cuts n a (stmt_steps cuts n a m) m)
 capped_onward cuts n skip m = capped_twice m
 capped_onward cuts n (put x is e) m = capped_twice m
+capped_onward cuts n (assert_that t) m = capped_twice m
 capped_onward cuts n (if_then t b c) m = capped_both _ _ _ _ (capped cuts n b m) (capped cuts (n + point_count b) c m)
 capped_onward cuts n (while_do t b) m =
     capped_both _ _ _ _
@@ -121,6 +122,7 @@ pub saturated_branches : (cuts : List ℕ) (n : ℕ) (a : Stmt) (m : ℕ)
     → saturated (stmt_branches cuts n a (saturated (stmt_walks cuts n a (saturated m))) (saturated m)) ≡ saturated (stmt_branches cuts n a (stmt_walks cuts n a m) m)
 saturated_branches cuts n skip m = saturated_twice m
 saturated_branches cuts n (put x is e) m = saturated_twice m
+saturated_branches cuts n (assert_that t) m = saturated_first (outcome_count t true) (outcome_count t false) m 1
 saturated_branches cuts n (if_then t b c) m =
     saturated_both (outcome_count t true) (outcome_count t false) _ _ _ _ (saturated_block cuts n b m) (saturated_block cuts (n + point_count b) c m)
 saturated_branches cuts n (while_do t b) m =

@@ -4,7 +4,7 @@ use Rattle.std.specs.List.{list_any}
 use Rattle.std.proofs.Common.{sym, ◌∙◌, ap, subst, arith}
 use Rattle.std.proofs.lemmas.Bool.Decides.{nat_tests}
 use Rattle.std.proofs.lemmas.List.Folds.{list_any-append}
-use Rattle.toy_imp.specs.Block.{skip, put, if_then, while_do, for_to, let_in, par_stmt, empty, stmt}
+use Rattle.toy_imp.specs.Block.{skip, put, assert_that, if_then, while_do, for_to, let_in, par_stmt, empty, stmt}
 use Rattle.toy_imp.specs.Test.{Test}
 use Rattle.toy_imp.specs.Faults.{has_scope}
 use Rattle.rule_terms.specs.Term.{StoreTerm}
@@ -15,9 +15,10 @@ use Rattle.rule_terms.specs.Counts.{store_nodes, literals_nodes}
 use Rattle.rule_terms.specs.declared.obligation.Literal.{Literal}
 use Rattle.rule_terms.specs.declared.path.Path.{Path}
 use Rattle.rule_terms.specs.declared.path.Stop.{Stop}
+use Rattle.rule_terms.specs.declared.path.Stop.TheVariants.{Halted}
 use Rattle.path_pairs.specs.Rests.{Rest, stretch}
 use Rattle.path_pairs.specs.Outcomes.{outcomes}
-use Rattle.path_pairs.specs.Walks.{Walk, stands, by_each, stmt_step, rest_step, step, rest_stop, stop_of, walks, goes_on}
+use Rattle.path_pairs.specs.Walks.{Next, goes, stops, Walk, stands, each_so, by_each, stmt_step, rest_step, step, rest_stop, stop_of, walks, goes_on}
 use Rattle.path_pairs.specs.Paths.{is_large_path}
 use Rattle.path_pairs.proofs.NodesAt.{literals_append}
 use Rattle.path_pairs.proofs.OutcomeLengths.{as_many_outcomes, some_outcome}
@@ -28,9 +29,9 @@ abbrev pub rest_is_plain : Rest → Type 0
 rest_is_plain [] = Unit {0}
 rest_is_plain (stretch n b ∷ rest) = (has_scope b ≡ false) × rest_is_plain rest
 
-abbrev pub is_plain : Option Rest → Type 0
-is_plain None = Unit {0}
-is_plain (Some rest) = rest_is_plain rest
+abbrev pub is_plain : Next → Type 0
+is_plain (stops stop) = Unit {0}
+is_plain (goes rest) = rest_is_plain rest
 
 abbrev pub walk_nodes : Walk → ℕ
 walk_nodes w = literals_nodes w.literals + store_nodes w.store
@@ -56,14 +57,14 @@ first_is (x ∷ xs) h = record { outcome = x; others = xs; are = refl }
 first_outcome : (t : Test) (s : StoreTerm) → First (outcomes t true s)
 first_outcome t s = first_is (outcomes t true s) (subst (λ n. 1 ≤ n) (sym (as_many_outcomes t true s)) (some_outcome t true))
 
-by_test : (t : Test) (ls : List Literal) (s : StoreTerm) (into past : Rest) → rest_is_plain into
-    → Onward (literals_nodes ls + store_nodes s) (by_each (outcomes t true s) ls s into ++ by_each (outcomes t false s) ls s past)
+by_test : (t : Test) (ls : List Literal) (s : StoreTerm) (into : Rest) (past : Next) → rest_is_plain into
+    → Onward (literals_nodes ls + store_nodes s) (by_each (outcomes t true s) ls s into ++ each_so (outcomes t false s) ls s past)
 by_test t ls s into past h =
     let o : First (outcomes t true s) = first_outcome t s in
     record {
       next = stands (ls ++ o.outcome) s into;
-      others = by_each o.others ls s into ++ by_each (outcomes t false s) ls s past;
-      are = ap (λ found. by_each found ls s into ++ by_each (outcomes t false s) ls s past) o.are;
+      others = by_each o.others ls s into ++ each_so (outcomes t false s) ls s past;
+      are = ap (λ found. by_each found ls s into ++ each_so (outcomes t false s) ls s past) o.are;
       grows = omega (arith, literals_append ls o.outcome);
       plain = h;
     }
@@ -83,6 +84,7 @@ rest_onward cuts exit (stretch n (stmt (put x is v) b) ∷ rest) ls s h e =
       grows = omega arith;
       plain = h;
     }
+rest_onward cuts exit (stretch n (stmt (assert_that t) b) ∷ rest) ls s h e = by_test t ls s _ _ h
 rest_onward cuts exit (stretch n (stmt (if_then t b c) d) ∷ rest) ls s h e =
     let parts : ((has_scope b || has_scope c) ≡ false) × (has_scope d ≡ false) = or_neither (has_scope b || has_scope c) (has_scope d) h.0 in
     let inside : (has_scope b ≡ false) × (has_scope c ≡ false) = or_neither (has_scope b) (has_scope c) parts.0 in
@@ -103,13 +105,13 @@ rest_onward cuts exit (stretch n (stmt (par_stmt k) b) ∷ rest) ls s h e =
     }
 
 -- any walk
-abbrev pub walk : List Literal → StoreTerm → Option Rest → Walk
+abbrev pub walk : List Literal → StoreTerm → Next → Walk
 walk ls s next = record { literals = ls; store = s; next = next }
 
-walk_onward : (cuts : List ℕ) (exit : ℕ) (ls : List Literal) (s : StoreTerm) (next : Option Rest) → is_plain next → stop_of cuts exit (walk ls s next) ≡ None
+walk_onward : (cuts : List ℕ) (exit : ℕ) (ls : List Literal) (s : StoreTerm) (next : Next) → is_plain next → stop_of cuts exit (walk ls s next) ≡ None
     → Onward (literals_nodes ls + store_nodes s) (step (walk ls s next))
-walk_onward cuts exit ls s None h e = cc
-walk_onward cuts exit ls s (Some rest) h e = rest_onward cuts exit rest ls s h e
+walk_onward cuts exit ls s (stops stop) h e = cc
+walk_onward cuts exit ls s (goes rest) h e = rest_onward cuts exit rest ls s h e
 
 or_left : (x y : Bool) → x ≡ true → (x || y) ≡ true
 or_left true y h = refl
@@ -144,7 +146,7 @@ none_goes : (cuts : List ℕ) (exit n : ℕ) (ws : List Walk) (o : Onward n ws) 
 unfolding goes_on
 none_goes cuts exit n ws o h = let e : true ≡ false = first_ends zero cuts exit n ws o h in cc
 
-pub goes_large : (k : ℕ) (cuts : List ℕ) (exit : ℕ) (ls : List Literal) (s : StoreTerm) (next : Option Rest) → is_plain next → goes_on (suc k) cuts exit (walk ls s next) ≡ false
+pub goes_large : (k : ℕ) (cuts : List ℕ) (exit : ℕ) (ls : List Literal) (s : StoreTerm) (next : Next) → is_plain next → goes_on (suc k) cuts exit (walk ls s next) ≡ false
     → 4096 < literals_nodes ls + store_nodes s → list_any is_large_path (walks k cuts exit (walk ls s next)) ≡ true
 unfolding goes_on walks
 goes_large zero cuts exit ls s next plain h large =

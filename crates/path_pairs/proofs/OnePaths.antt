@@ -6,19 +6,19 @@ use Rattle.std.proofs.Common.{sym, ◌∙◌, ap, subst, true≢false, inr, arit
 use Rattle.std.proofs.lemmas.Bool.{or_parts}
 use Rattle.toy_imp.specs.declared.instance.Instance.{Instance}
 use Rattle.toy_imp.specs.declared.rule.Rule.{Rule}
-use Rattle.toy_imp.specs.Block.{Stmt, skip, put, if_then, while_do, for_to, let_in, par_stmt, Block, empty, stmt}
+use Rattle.toy_imp.specs.Block.{Stmt, skip, put, assert_that, if_then, while_do, for_to, let_in, par_stmt, Block, empty, stmt}
 use Rattle.toy_imp.specs.Ends.{Reaches}
 use Rattle.toy_imp.specs.Faults.{has_scope, stmt_has_scope}
 use Rattle.toy_imp.specs.Fill.{fill}
 use Rattle.toy_imp.specs.Points.{exit_point}
-use Rattle.toy_imp.specs.Run.{Item, before}
+use Rattle.toy_imp.specs.Run.{Item, before, ended, halted}
 use Rattle.toy_imp.specs.Store.{Store}
 use Rattle.toy_imp.proofs.Alikes.{append-empty}
 use Rattle.rule_terms.specs.Term.{StoreTerm, run}
 use Rattle.rule_terms.specs.declared.obligation.Literal.{Literal}
 use Rattle.rule_terms.specs.declared.path.Path.{Path}
 use Rattle.rule_terms.specs.declared.path.Stop.{Stop}
-use Rattle.rule_terms.specs.declared.path.Stop.TheVariants.{At, Stuck}
+use Rattle.rule_terms.specs.declared.path.Stop.TheVariants.{At, Halted, Stuck}
 use Rattle.term_meaning.specs.Meaning.{store_of, literal_truth, CoversStore}
 use Rattle.term_meaning.specs.Table.{Entry, Faithful}
 use Rattle.path_pairs.specs.declared.cut_points.CutPoints.{CutPoints}
@@ -26,15 +26,15 @@ use Rattle.path_pairs.specs.declared.cut_points.Side.{Side}
 use Rattle.path_pairs.specs.declared.cut_points.Side.TheVariants.{Left, Right}
 use Rattle.path_pairs.specs.Comes.{Comes}
 use Rattle.path_pairs.specs.Open.{block_is_open}
-use Rattle.path_pairs.specs.PathLaws.{work_of, work_at, its_store, is_taken, CoversStores, block_length, rest_length, left_count, GetsOn, StopsAt, Tells, OnePath}
+use Rattle.path_pairs.specs.PathLaws.{work_of, work_at, its_store, is_taken, last_term, CoversStores, block_length, rest_length, left_count, GetsOn, StopsAt, Tells, OnePath}
 use Rattle.path_pairs.specs.Paths.{side_of, cuts_of, store_of as term_of, side_paths, has_long_walk, paths}
 use Rattle.path_pairs.specs.Rests.{Rest, stretch, rests, rest_at}
-use Rattle.path_pairs.specs.Walks.{Walk, stands, stmt_step, rest_step, step, rest_stop, stop_of, walks, goes_on}
-use Rattle.path_pairs.proofs.Comings.{comes_same, comes_through, steps_through, gets_on_more, gets_on_through, comes_ends, reaches_behind}
+use Rattle.path_pairs.specs.Walks.{Next, goes, stops, Walk, stands, stmt_step, rest_step, step, rest_stop, stop_of, walks, goes_on}
+use Rattle.path_pairs.proofs.Comings.{comes_same, comes_through, steps_through, gets_on_more, gets_on_through, comes_ends, reaches_behind, reaches_before}
 use Rattle.path_pairs.proofs.Passing.{Among, passes, among, among_any, among_made, only_one, not_one, none_led, one_led}
-use Rattle.path_pairs.proofs.Standing.{Stands, Moves, Stopped, stops, moves, exit_is, exit_is_empty, start_stands, point_stands}
-use Rattle.path_pairs.proofs.TrueSteps.{CoversRun, CoversNext, Onward, is_true, OneStep, rest_once, rest_never}
-use Rattle.path_pairs.proofs.WalkSteps.{test_goes}
+use Rattle.path_pairs.proofs.Standing.{Stands, Moves, Stopped, stops_there, moves, exit_is, exit_is_empty, start_stands, point_stands}
+use Rattle.path_pairs.proofs.TrueSteps.{CoversRun, CoversNext, TellsStop, Onward, is_true, OneStep, rest_once, rest_never}
+use Rattle.path_pairs.proofs.WalkSteps.{test_goes, assert_goes}
 
 -- ---- a walk whose literals are not all true leads to no path that is taken
 module _ (i : Instance) (T : List Entry) (l r : Store) (cuts : List ℕ) (exit : ℕ) where
@@ -43,10 +43,10 @@ module _ (i : Instance) (T : List Entry) (l r : Store) (cuts : List ℕ) (exit :
   stopped_never ls u h None others e = e
   stopped_never ls u h (Some stop) others e = not_one (is_taken i T l r) (record { literals = ls; store = u; stop = stop }) h
 
-  step_never : (ls : List Literal) (u : StoreTerm) → list_all (literal_truth i T l r) ls ≡ false → (o : Option Rest)
-      → filter (is_true i T l r) (elim o as (λ x. List Walk) [ None ↦ [] | Some rest ↦ rest_step rest ls u ]) ≡ []
-  step_never ls u h None = refl
-  step_never ls u h (Some rest) = rest_never i T l r ls u h rest
+  step_never : (ls : List Literal) (u : StoreTerm) → list_all (literal_truth i T l r) ls ≡ false → (next : Next)
+      → filter (is_true i T l r) (elim next as (λ x. List Walk) [ stops stop ↦ [] | goes rest ↦ rest_step rest ls u ]) ≡ []
+  step_never ls u h (stops stop) = refl
+  step_never ls u h (goes rest) = rest_never i T l r ls u h rest
 
   pub never_taken : (n : ℕ) (w : Walk) → is_true i T l r w ≡ false → filter (is_taken i T l r) (walks n cuts exit w) ≡ []
   unfolding walks
@@ -60,28 +60,30 @@ covers_cut : (i : Instance) (T : List Entry) (l r : Store) (xs ys : List Path) �
 covers_cut i T l r [] ys c = (tt, c)
 covers_cut i T l r (x ∷ xs) ys c = let h : CoversStores i T l r xs × CoversStores i T l r ys = covers_cut i T l r xs ys c.1 in ((c.0, h.0), h.1)
 
-stuck_walk : (n : ℕ) (cuts : List ℕ) (exit : ℕ) (ls : List Literal) (u : StoreTerm) → walks n cuts exit (record { literals = ls; store = u; next = None }) ≡ record { literals = ls; store = u; stop = Stuck } ∷ []
+stopped_walk : (n : ℕ) (cuts : List ℕ) (exit : ℕ) (ls : List Literal) (u : StoreTerm) (stop : Stop) → walks n cuts exit (record { literals = ls; store = u; next = stops stop }) ≡ record { literals = ls; store = u; stop = stop } ∷ []
 unfolding walks
-stuck_walk zero cuts exit ls u = refl
-stuck_walk (suc n) cuts exit ls u = refl
+stopped_walk zero cuts exit ls u stop = refl
+stopped_walk (suc n) cuts exit ls u stop = refl
 
 -- what covers the paths on from a statement parameter covers its run, since one of them is stuck there
 module _ (i : Instance) (T : List Entry) (l r : Store) (n : ℕ) (cuts : List ℕ) (exit : ℕ) where
-  covers_stuck : (first : List Path) (ls : List Literal) (u : StoreTerm) → CoversStores i T l r (first ++ (walks n cuts exit (record { literals = ls; store = u; next = None }) ++ [])) → CoversStore i T l r u
-  covers_stuck first ls u c =
-      let last : CoversStores i T l r (walks n cuts exit (record { literals = ls; store = u; next = None })) = (covers_cut i T l r (walks n cuts exit (record { literals = ls; store = u; next = None })) [] (covers_cut i T l r first _ c).1).0 in
-      let path : CoversStores i T l r (record { literals = ls; store = u; stop = Stuck } ∷ []) = subst (λ ps. CoversStores i T l r ps) (stuck_walk n cuts exit ls u) last in
+  covers_stuck : (first : List Path) (ls : List Literal) (u : StoreTerm) (k : ℕ) → CoversStores i T l r (first ++ (walks n cuts exit (record { literals = ls; store = u; next = stops (Stuck k) }) ++ [])) → CoversStore i T l r (run k u)
+  covers_stuck first ls u k c =
+      let w : Walk = record { literals = ls; store = u; next = stops (Stuck k) } in
+      let last : CoversStores i T l r (walks n cuts exit w) = (covers_cut i T l r (walks n cuts exit w) [] (covers_cut i T l r first _ c).1).0 in
+      let path : CoversStores i T l r (record { literals = ls; store = u; stop = Stuck k } ∷ []) = subst (λ ps. CoversStores i T l r ps) (stopped_walk n cuts exit ls u (Stuck k)) last in
       path.0
 
   covers_run : (m : ℕ) (a : Stmt) (here behind : Rest) (ls : List Literal) (u : StoreTerm) → CoversStores i T l r (flat_map (walks n cuts exit) (stmt_step m a here behind ls u)) → CoversRun i T l r a u
   unfolding stmt_step
   covers_run m skip here behind ls u c = tt
   covers_run m (put x is e) here behind ls u c = tt
+  covers_run m (assert_that t) here behind ls u c = tt
   covers_run m (if_then t b d) here behind ls u c = tt
   covers_run m (while_do t b) here behind ls u c = tt
   covers_run m (for_to x lo hi b) here behind ls u c = tt
   covers_run m (let_in x e b) here behind ls u c = tt
-  covers_run m (par_stmt k) here behind ls u c = covers_stuck (walks n cuts exit _) _ (run k u) c
+  covers_run m (par_stmt k) here behind ls u c = covers_stuck (walks n cuts exit _) _ u k c
 
   covers_next : (rest : Rest) (ls : List Literal) (u : StoreTerm) → CoversStores i T l r (flat_map (walks n cuts exit) (rest_step rest ls u)) → CoversNext i T l r rest u
   covers_next [] ls u c = tt
@@ -93,6 +95,7 @@ some_step : (cuts : List ℕ) (exit m : ℕ) (a : Stmt) (here behind : Rest) (ls
 unfolding goes_on stmt_step
 some_step cuts exit m skip here behind ls u h = refl
 some_step cuts exit m (put x is e) here behind ls u h = refl
+some_step cuts exit m (assert_that t) here behind ls u h = assert_goes zero cuts exit t behind zero (λ ms v. refl) ls u
 some_step cuts exit m (if_then t b d) here behind ls u h = test_goes zero cuts exit t _ _ true true (λ ms v. refl) (λ ms v. refl) ls u
 some_step cuts exit m (while_do t b) here behind ls u h = test_goes zero cuts exit t _ _ true true (λ ms v. refl) (λ ms v. refl) ls u
 some_step cuts exit m (for_to x lo hi b) here behind ls u h = absurd (true≢false h)
@@ -121,11 +124,24 @@ module _ (A : Type 0) (i : Instance) (T : List Entry) (l r : Store) (side : Bloc
         gets_on_through c.steps h.comes.steps (comes_through u w (work_at i side q) s m h.store c h.comes).steps left between (left_count side q)
         (steps_through u w (work_at i side q) s m h.store c h.comes) g h.gets_on;
   }
-  tells_from left between u w s m c g store Stuck h = λ t e. h t (reaches_behind u w s m t c e)
+  tells_from left between u w s m c g store Halted h = record { store = h.store; means = h.means; halts = reaches_before u w s m (halted h.store) c h.halts }
+  tells_from left between u w s m c g store (Stuck k) h = record {
+    store = h.store;
+    means = h.means;
+    never_ends = λ t e. h.never_ends t (reaches_behind u w s m (ended t) c e);
+    halts_by_it = λ t e. h.halts_by_it t (reaches_behind u w s m (halted t) c e);
+    halts = λ t e. reaches_before u w s m (halted t) c (h.halts t e);
+  }
 
   tells_more : (left more : ℕ) → left ≤ more → (work : List Item) (s : Store) (store : StoreTerm) (stop : Stop) → Tells A i T l r side left work s store stop → Tells A i T l r side more work s store stop
   tells_more left more le work s store (At q) h = record { store = h.store; means = h.means; comes = h.comes; gets_on = gets_on_more h.comes.steps (left_count side q) left more h.gets_on le }
-  tells_more left more le work s store Stuck h = h
+  tells_more left more le work s store Halted h = h
+  tells_more left more le work s store (Stuck k) h = h
+
+  tells_stop : (left : ℕ) (work : List Item) (s : Store) (u : StoreTerm) (stop : Stop) → TellsStop A i T l r work s u stop → Tells A i T l r side left work s u stop
+  tells_stop left work s u (At q) h = absurd h
+  tells_stop left work s u Halted h = h
+  tells_stop left work s u (Stuck k) h = h
 
   one_more : (left more : ℕ) → left ≤ more → (work : List Item) (s : Store) (all : List Path) → OnePath A i T l r side left work s all → OnePath A i T l r side more work s all
   one_more left more le work s all one = record { path = one.path; only = one.only; tells = tells_more left more le work s one.path.store one.path.stop one.tells }
@@ -145,7 +161,7 @@ module _ (A : Type 0) (i : Instance) (T : List Entry) (l r : Store) (faithful : 
   stopped : (rest : Rest) (ls : List Literal) (u : StoreTerm) (s : Store) → Stands (rests side) rest → list_all (literal_truth i T l r) ls ≡ true → store_of i T l r u ≡ Some s
       → (stop : Stop) → rest_stop cuts (exit_point side) rest ≡ Some stop → Told (suc (rest_length rest)) (work_of i rest) s (record { literals = ls; store = u; stop = stop } ∷ [])
   stopped rest ls u s h so_far is_s stop e =
-      let there : Stopped (rests side) rest stop = stops (rests side) cuts rest (omega arith) h stop (ap (λ n. rest_stop cuts n rest) (exit_is side plain) ∙ e) in
+      let there : Stopped (rests side) rest stop = stops_there (rests side) cuts rest (omega arith) h stop (ap (λ n. rest_stop cuts n rest) (exit_is side plain) ∙ e) in
       let same : work_of i rest ≡ work_at i side there.point = ap (λ b. before (fill i b) []) there.same in
       let as_many : left_count side there.point ≡ rest_length rest = left_inside side there.point there.inside ∙ ap block_length (sym there.same) in
       let told : StopsAt i T l r side (suc (rest_length rest)) (work_of i rest) s u there.point =
@@ -157,16 +173,16 @@ module _ (A : Type 0) (i : Instance) (T : List Entry) (l r : Store) (faithful : 
       }
 
   -- on from the one true walk of a step
-  on_from : (n : ℕ) → Walked n → (left : ℕ) (work : List Item) (s : Store) (ls : List Literal) (u : StoreTerm) (next : Option Rest) → list_all (literal_truth i T l r) ls ≡ true → Onward A i T l r (rests side) left work s u next
+  on_from : (n : ℕ) → Walked n → (left : ℕ) (work : List Item) (s : Store) (ls : List Literal) (u : StoreTerm) (next : Next) → list_all (literal_truth i T l r) ls ≡ true → Onward A i T l r (rests side) left work s u next
       → CoversStores i T l r (walks n cuts (exit_point side) (record { literals = ls; store = u; next = next }))
       → goes_on (suc n) cuts (exit_point side) (record { literals = ls; store = u; next = next }) ≡ false
       → Told left work s (walks n cuts (exit_point side) (record { literals = ls; store = u; next = next }))
-  on_from n walked left work s ls u None so_far onward c g = record {
-    path = record { literals = ls; store = u; stop = Stuck };
-    only = ap (filter (is_taken i T l r)) (stuck_walk n cuts (exit_point side) ls u) ∙ only_one (is_taken i T l r) (record { literals = ls; store = u; stop = Stuck }) so_far;
-    tells = onward;
+  on_from n walked left work s ls u (stops stop) so_far onward c g = record {
+    path = record { literals = ls; store = u; stop = stop };
+    only = ap (filter (is_taken i T l r)) (stopped_walk n cuts (exit_point side) ls u stop) ∙ only_one (is_taken i T l r) (record { literals = ls; store = u; stop = stop }) so_far;
+    tells = tells_stop A i T l r side left work s u stop onward;
   }
-  on_from n walked left work s ls u (Some rest) so_far on c g =
+  on_from n walked left work s ls u (goes rest) so_far on c g =
       let one : Told (suc (rest_length rest)) (work_of i rest) on.store (walks n cuts (exit_point side) (stands ls u rest)) = walked rest ls u on.store on.placed so_far on.means c g in
       record {
         path = one.path;
@@ -249,6 +265,6 @@ path_law A i T l r faithful rule cuts side p names plain lt g c =
 pub all_is_left_at_start : (i : Instance) (side : Block) → work_at i side 0 ≡ before (fill i side) []
 all_is_left_at_start i side = ap (λ b. before (fill i b) []) (append-empty side)
 
-pub run_ends_at_exit : (i : Instance) (side : Block) → has_scope side ≡ false → (work : List Item) (s m : Store) → Comes work s (work_at i side (exit_point side)) m → Reaches work s m
+pub run_ends_at_exit : (i : Instance) (side : Block) → has_scope side ≡ false → (work : List Item) (s m : Store) → Comes work s (work_at i side (exit_point side)) m → Reaches work s (ended m)
 unfolding fill
 run_ends_at_exit i side plain work s m c = comes_ends work s m (subst (λ w. Comes work s w m) (ap (work_of i) (exit_is_empty side plain)) c)

@@ -6,7 +6,7 @@ use Rattle.toy_imp.specs.declared.name.Name.TheVariants.{Own, Par}
 use Rattle.toy_imp.specs.declared.rule.Rule.{Rule}
 use Rattle.toy_imp.specs.Expr.{Expr, num, at, add, sub, mul, par_expr, Exprs, no_exprs, expr}
 use Rattle.toy_imp.specs.Test.{Test, less, less_eq, equal, not_of, and_of, or_of, par_test}
-use Rattle.toy_imp.specs.Block.{Stmt, skip, put, if_then, while_do, for_to, let_in, par_stmt, Block, empty, stmt}
+use Rattle.toy_imp.specs.Block.{Stmt, skip, put, assert_that, if_then, while_do, for_to, let_in, par_stmt, Block, empty, stmt}
 use Rattle.toy_imp.specs.Uses.{name_use, expr_any, exprs_any, test_any, stmt_any, block_any}
 use Rattle.toy_imp.specs.Faults.{repeats_name, is_undeclared, condition_numbers, uses_undeclared, misplaces_parameter, omits_parameter, has_scope, is_swaps, is_simulate, simulates_scopes, has_wrong_cuts, is_too_large, well_formed}
 use Rattle.rule_terms.specs.ValueAt.{is_open, names_are_open, all_names_are_open}
@@ -54,6 +54,7 @@ mutual
   open_stmt n (put x is e) h =
       both_open (is_undeclared n (name_use x)) (exprs_any (is_undeclared n) is || expr_any (is_undeclared n) e) (is_open x) (all_names_are_open is && names_are_open e) h (open_name n x)
       (λ k. both_open (exprs_any (is_undeclared n) is) (expr_any (is_undeclared n) e) (all_names_are_open is) (names_are_open e) k (open_exprs n is) (open_expr n e))
+  open_stmt n (assert_that t) h = open_test n t h
   open_stmt n (if_then t b c) h =
       both_open (test_any (is_undeclared n) t) (block_any (is_undeclared n) b || block_any (is_undeclared n) c) (test_is_open t) (block_is_open b && block_is_open c) h (open_test n t)
       (λ k. both_open (block_any (is_undeclared n) b) (block_any (is_undeclared n) c) (block_is_open b) (block_is_open c) k (open_block n b) (open_block n c))

@@ -2,7 +2,7 @@
 use Rattle.std.specs.Prelude.{◌≡◌, ℕ, zero, suc, ◌+◌, ◌-◌, ◌^◌, ◌<◌, ◌≤◌, ◌≢◌, max, false, ◌||◌, List, [], ◌∷◌, ◌++◌, length, refl}
 use Rattle.std.proofs.Common.{sym, ◌∙◌, ap, subst, get_or, take, drop, arith}
 use Rattle.std.proofs.lemmas.List.{length-append, append_assoc, append-nil, length-drop, get_or_append_left, get_or-append_right, drop_all, take_all}
-use Rattle.toy_imp.specs.Block.{Stmt, skip, put, if_then, while_do, for_to, let_in, par_stmt, Block, empty, stmt, stmt_depth, block_depth}
+use Rattle.toy_imp.specs.Block.{Stmt, skip, put, assert_that, if_then, while_do, for_to, let_in, par_stmt, Block, empty, stmt, stmt_depth, block_depth}
 use Rattle.toy_imp.specs.BlockView.{block_of}
 use Rattle.toy_imp.specs.BlockFalls.{stmt_item}
 use Rattle.toy_imp.specs.Points.{stmt_count, point_count}
@@ -21,6 +21,7 @@ mutual
   pub as_many_in : (n : ℕ) (s : Stmt) (here behind : Rest) → stmt_has_scope s ≡ false → length (stmt_rests n s here behind) ≡ stmt_count s
   as_many_in n skip here behind h = refl
   as_many_in n (put x is e) here behind h = refl
+  as_many_in n (assert_that t) here behind h = refl
   as_many_in n (if_then t b c) here behind h =
       let inside : (has_scope b ≡ false) × (has_scope c ≡ false) = or_neither (has_scope b) (has_scope c) h in
       length-append (block_rests n b behind) (block_rests (n + point_count b) c behind)

@@ -2,7 +2,7 @@
 use Rattle.std.specs.Prelude.{◌≡◌, ℕ, zero, suc, ◌+◌, ◌^◌, ◌≤◌, ◌<◌, min, nat_lt, cond, Bool, true, false, List, [], ◌∷◌, ◌++◌, length, Some, Result, Ok, Err, refl}
 use Rattle.std.proofs.Common.{sym, ◌∙◌, ap, get_or, arith}
 use Rattle.std.proofs.lemmas.Bool.Decides.{nat_tests}
-use Rattle.toy_imp.specs.Block.{Stmt, skip, put, if_then, while_do, for_to, let_in, par_stmt, Block, empty, stmt}
+use Rattle.toy_imp.specs.Block.{Stmt, skip, put, assert_that, if_then, while_do, for_to, let_in, par_stmt, Block, empty, stmt}
 use Rattle.toy_imp.specs.Points.{stmt_count, point_count, exit_point}
 use Rattle.toy_imp.specs.Faults.{has_scope}
 use Rattle.toy_imp.specs.declared.rule.Rule.{Rule}
@@ -49,6 +49,7 @@ mutual
   stmt_rests_walkable : (n : ℕ) (a : Stmt) (here behind : Rest) → IsWalkable n (stmt a empty) → AreWalkable here → AreWalkable behind → AllRests (stmt_rests n a here behind)
   stmt_rests_walkable n skip here behind h k j = tt
   stmt_rests_walkable n (put x is e) here behind h k j = tt
+  stmt_rests_walkable n (assert_that t) here behind h k j = tt
   stmt_rests_walkable n (if_then t b c) here behind h k j =
       let parts : IfWalkable n t b c = if_walkable n (if_then t b c) t b c refl h in
       all_append (block_rests n b behind) (block_rests (n + point_count b) c behind) (block_rests_walkable n b behind parts.first j) (block_rests_walkable (n + point_count b) c behind parts.second j)

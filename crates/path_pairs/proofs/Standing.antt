@@ -4,7 +4,7 @@ use Rattle.std.specs.Prelude.{◌≡◌, ℕ, zero, suc, ◌+◌, ◌-◌, ◌<�
 use Rattle.std.proofs.Common.{sym, ◌∙◌, ap, subst, drop, append_assoc, true≢false, arith}
 use Rattle.std.proofs.lemmas.Bool.{and_parts, or_parts}
 use Rattle.std.proofs.lemmas.List.{append-nil, drop-drop, get_or-drop, get_or_past, length-append, length-drop}
-use Rattle.toy_imp.specs.Block.{Stmt, skip, put, if_then, while_do, for_to, let_in, par_stmt, Block, empty, stmt}
+use Rattle.toy_imp.specs.Block.{Stmt, skip, put, assert_that, if_then, while_do, for_to, let_in, par_stmt, Block, empty, stmt}
 use Rattle.toy_imp.specs.Faults.{stmt_has_scope, has_scope}
 use Rattle.toy_imp.specs.Points.{stmt_count, point_count, exit_point}
 use Rattle.toy_imp.specs.Test.{Test}
@@ -20,6 +20,7 @@ mutual
   pub as_many_rests_inside : (n : ℕ) (a : Stmt) (here behind : Rest) → stmt_has_scope a ≡ false → length (stmt_rests n a here behind) ≡ stmt_count a
   as_many_rests_inside n skip here behind h = refl
   as_many_rests_inside n (put x is e) here behind h = refl
+  as_many_rests_inside n (assert_that t) here behind h = refl
   as_many_rests_inside n (if_then t b c) here behind h =
       length-append (block_rests n b behind) (block_rests (n + point_count b) c behind)
       ∙ (λ i. as_many_rests n b behind (or_parts _ _ h).0 i + as_many_rests (n + point_count b) c behind (or_parts _ _ h).1 i)
@@ -158,6 +159,7 @@ mutual
   inside_stmt : (all : List Rest) (n : ℕ) (a : Stmt) (here behind : Rest) → PlacedStmt all n a here behind → StandsNext all here → Stands all behind → AllOf (StandsNext all) (stmt_rests n a here behind)
   inside_stmt all n skip here behind h g k = tt
   inside_stmt all n (put x is e) here behind h g k = tt
+  inside_stmt all n (assert_that t) here behind h g k = tt
   inside_stmt all n (if_then t c d) here behind h g k =
       all_append (StandsNext all) (block_rests n c behind) (block_rests (n + point_count c) d behind)
       (inside_block all n c behind (first_block_placed all n t c d here behind h) k) (inside_block all (n + point_count c) d behind (second_block_placed all n t c d here behind h) k)
@@ -206,6 +208,7 @@ cut_stops false all n here stop front le h e = none_some stop e
 stmt_stops : (all : List Rest) (cuts : List ℕ) (n : ℕ) (a : Stmt) (here behind : Rest) → 1 ≤ n → From all n (stmt_rests n a here behind) → (stop : Stop) → stmt_stop cuts n a ≡ Some stop → Stopped all here stop
 stmt_stops all cuts n skip here behind front h stop e = none_some stop e
 stmt_stops all cuts n (put x is v) here behind front h stop e = none_some stop e
+stmt_stops all cuts n (assert_that t) here behind front h stop e = none_some stop e
 stmt_stops all cuts n (if_then t c d) here behind front h stop e = none_some stop e
 stmt_stops all cuts n (while_do t c) here behind front h stop e =
     let lt : n < length all = part_within all n here (block_rests (suc n) c here) h in
@@ -216,18 +219,18 @@ stmt_stops all cuts n (par_stmt k) here behind front h stop e =
     let lt : n < length all = part_within all n here [] h in
     cut_stops (is_cut cuts n) all n here stop front (omega (arith, lt)) (first_at all n here [] [] h) e
 
-pub stops : (all : List Rest) (cuts : List ℕ) (rest : Rest) → 1 ≤ length all → Stands all rest → (stop : Stop) → rest_stop cuts (length all) rest ≡ Some stop → Stopped all rest stop
-stops all cuts [] some h stop e = record {
+pub stops_there : (all : List Rest) (cuts : List ℕ) (rest : Rest) → 1 ≤ length all → Stands all rest → (stop : Stop) → rest_stop cuts (length all) rest ≡ Some stop → Stopped all rest stop
+stops_there all cuts [] some h stop e = record {
   point = length all;
   inside = some;
   is = sym (some_equal (At (length all)) stop e);
   within = omega arith;
   same = ap rest_statements (sym (get_or_past all (length all) [] (omega arith)));
 }
-stops all cuts (stretch n empty ∷ rest) some h stop e =
-    let on : Stopped all rest stop = stops all cuts rest some h.1 stop e in
+stops_there all cuts (stretch n empty ∷ rest) some h stop e =
+    let on : Stopped all rest stop = stops_there all cuts rest some h.1 stop e in
     record { point = on.point; inside = on.inside; is = on.is; within = on.within; same = on.same }
-stops all cuts (stretch n (stmt a b) ∷ rest) some h stop e =
+stops_there all cuts (stretch n (stmt a b) ∷ rest) some h stop e =
     stmt_stops all cuts n a (stretch n (stmt a b) ∷ rest) (stretch (n + stmt_count a) b ∷ rest) h.0.inside (first_placed all n a b rest h.0).part stop e
 
 -- where it does not stop, a statement stands next

@@ -3,7 +3,7 @@
 use Rattle.std.specs.Prelude.{◌≡◌, ℕ, suc, ◌+◌, ◌*◌, ◌≤◌, ◌⊎◌, max, Bool, true, false, cond, not, ◌&&◌, ◌||◌, List, refl}
 use Rattle.std.proofs.Common.{sym, ◌∙◌, ap, subst, inl, inr, arith}
 use Rattle.std.proofs.lemmas.Bool.{and_parts}
-use Rattle.toy_imp.specs.Block.{Stmt, skip, put, if_then, while_do, for_to, let_in, par_stmt, Block, empty, stmt}
+use Rattle.toy_imp.specs.Block.{Stmt, skip, put, assert_that, if_then, while_do, for_to, let_in, par_stmt, Block, empty, stmt}
 use Rattle.toy_imp.specs.Points.{stmt_count, point_count}
 use Rattle.path_pairs.specs.OutcomeCounts.{outcome_count}
 use Rattle.path_pairs.specs.Walks.{is_cut}
@@ -54,6 +54,7 @@ mutual
   pub passed_stmt : (cuts : List ℕ) (n : ℕ) (a : Stmt) → stmt_passes cuts n a ≡ true → (j m : ℕ) → j ≤ 65 → j ≤ m → j ≤ stmt_steps cuts n a m
   passed_stmt cuts n skip e j m small h = omega (arith, h)
   passed_stmt cuts n (put x is v) e j m small h = omega (arith, h)
+  passed_stmt cuts n (assert_that t) e j m small h = omega (arith, h)
   passed_stmt cuts n (if_then t b c) e j m small h =
       either_within j _ _ (elim (or_cases (passes cuts n b) (passes cuts (n + point_count b) c) e) [
         | inl d ↦ inl (passed cuts n b d j m small h)
@@ -76,6 +77,7 @@ mutual
   pub blocked_stmt : (cuts : List ℕ) (n : ℕ) (a : Stmt) → stmt_passes cuts n a ≡ false → (i j : ℕ) → stmt_steps cuts n a i ≡ stmt_steps cuts n a j
   blocked_stmt cuts n skip e i j = cc
   blocked_stmt cuts n (put x is v) e i j = cc
+  blocked_stmt cuts n (assert_that t) e i j = cc
   blocked_stmt cuts n (if_then t b c) e i j =
       let neither : (passes cuts n b ≡ false) × (passes cuts (n + point_count b) c ≡ false) = or_neither (passes cuts n b) (passes cuts (n + point_count b) c) e in
       let first : most_steps cuts n b i ≡ most_steps cuts n b j = blocked cuts n b neither.0 i j in
@@ -100,6 +102,7 @@ mutual
   pub as_many_stmt : (cuts : List ℕ) (n : ℕ) (a : Stmt) → stmt_passes cuts n a ≡ false → (i j : ℕ) → stmt_walks cuts n a i ≡ stmt_walks cuts n a j
   as_many_stmt cuts n skip e i j = cc
   as_many_stmt cuts n (put x is v) e i j = cc
+  as_many_stmt cuts n (assert_that t) e i j = cc
   as_many_stmt cuts n (if_then t b c) e i j =
       let neither : (passes cuts n b ≡ false) × (passes cuts (n + point_count b) c ≡ false) = or_neither (passes cuts n b) (passes cuts (n + point_count b) c) e in
       let first : walk_count cuts n b i ≡ walk_count cuts n b j = as_many cuts n b neither.0 i j in

@@ -8,24 +8,26 @@ use Rattle.std.proofs.lemmas.List.Folds.{list_all-append}
 use Rattle.toy_imp.specs.declared.instance.Instance.{Instance}
 use Rattle.toy_imp.specs.declared.name.Name.{Name}
 use Rattle.toy_imp.specs.declared.name.Name.TheVariants.{Own, Par}
-use Rattle.toy_imp.specs.Block.{Stmt, skip, put, if_then, while_do, for_to, let_in, par_stmt, Block, empty, stmt, append}
+use Rattle.toy_imp.specs.Block.{Stmt, skip, put, assert_that, if_then, while_do, for_to, let_in, par_stmt, Block, empty, stmt, append}
 use Rattle.toy_imp.specs.Cell.{spelled}
-use Rattle.toy_imp.specs.Ends.{Reaches}
+use Rattle.toy_imp.specs.Ends.{Reaches, Halts}
 use Rattle.toy_imp.specs.Expr.{Expr, Exprs}
 use Rattle.toy_imp.specs.Fill.{name_at, block_at, fill_name, fill_expr, fill_exprs, fill_test, fill_stmt, fill}
 use Rattle.toy_imp.specs.Points.{stmt_count, point_count}
-use Rattle.toy_imp.specs.Run.{Item, act, before, step}
+use Rattle.toy_imp.specs.Run.{Item, act, halt, before, step, ended, halted}
 use Rattle.toy_imp.specs.Store.{Store, write}
 use Rattle.toy_imp.specs.Test.{Test}
 use Rattle.toy_imp.specs.Truth.{truth}
 use Rattle.toy_imp.specs.Value.{value, values}
-use Rattle.toy_imp.proofs.Runs.{before-append, before-split, Through, through}
+use Rattle.toy_imp.proofs.Runs.{before-append, before-split, Through, through, halts_through, reaches_halt, assert_halts}
 use Rattle.param_meaning.proofs.Lists.{filled_work_by_parts}
 use Rattle.rule_terms.specs.Term.{StoreTerm, run}
 use Rattle.rule_terms.specs.Term as term
 use Rattle.rule_terms.specs.ValueAt.{is_open, names_are_open, all_names_are_open, number_of, value_at, values_at}
 use Rattle.rule_terms.specs.declared.obligation.Atom.TheVariants.{Ends}
 use Rattle.rule_terms.specs.declared.obligation.Literal.{Literal}
+use Rattle.rule_terms.specs.declared.path.Stop.{Stop}
+use Rattle.rule_terms.specs.declared.path.Stop.TheVariants.{At, Halted, Stuck}
 use Rattle.term_meaning.specs.MaybeStore.{put_in}
 use Rattle.term_meaning.specs.Meaning.{signed, store_of, atom_truth, literal_truth, CoversStore}
 use Rattle.term_meaning.specs.Table.{Entry, Agrees, AgreesAt, Faithful}
@@ -34,9 +36,9 @@ use Rattle.term_meaning.proofs.Valuing.{value_at_means, values_at_mean}
 use Rattle.path_pairs.specs.Comes.{Comes}
 use Rattle.path_pairs.specs.Open.{test_is_open}
 use Rattle.path_pairs.specs.Outcomes.{outcomes}
-use Rattle.path_pairs.specs.PathLaws.{work_of, rest_length, GetsOn}
+use Rattle.path_pairs.specs.PathLaws.{work_of, rest_length, GetsOn, HaltsThere, StuckThere}
 use Rattle.path_pairs.specs.Rests.{Rest, stretch, rest_statements}
-use Rattle.path_pairs.specs.Walks.{Walk, stands, by_each, stmt_step, rest_step}
+use Rattle.path_pairs.specs.Walks.{Next, goes, stops, Walk, stands, each_so, by_each, stmt_step, rest_step}
 use Rattle.path_pairs.proofs.Comings.{ComesByStep, one_step, done_comes}
 use Rattle.path_pairs.proofs.OutcomeTruths.{true_outcome, no_true_outcome}
 use Rattle.path_pairs.proofs.Passing.{filter-map, none_made, only_one, not_one, first_of_two, second_of_two, none_of_two, in_first, in_second, in_neither}
@@ -73,10 +75,16 @@ pub record StandsBefore (i : Instance) (T : List Entry) (l r : Store) (all : Lis
   pub comes : Comes work s (work_of i rest) store
   pub gets_on : GetsOn comes.steps (rest_length rest) left
 
--- what the one walk tells, by what stands next for it
-abbrev pub Onward : Type 0 → Instance → List Entry → Store → Store → List Rest → ℕ → List Item → Store → StoreTerm → Option Rest → Type 0
-Onward A i T l r all left work s u None = (t : Store) → Reaches work s t → A
-Onward A i T l r all left work s u (Some rest) = StandsBefore i T l r all left work s u rest
+-- what the one walk tells that has stopped for good; a step leads to no other stop
+abbrev pub TellsStop : Type 0 → Instance → List Entry → Store → Store → List Item → Store → StoreTerm → Stop → Type 0
+TellsStop A i T l r work s u (At q) = ⊥
+TellsStop A i T l r work s u Halted = HaltsThere i T l r work s u
+TellsStop A i T l r work s u (Stuck k) = StuckThere A i T l r work s u k
+
+-- what the one walk tells, by how it goes on
+abbrev pub Onward : Type 0 → Instance → List Entry → Store → Store → List Rest → ℕ → List Item → Store → StoreTerm → Next → Type 0
+Onward A i T l r all left work s u (stops stop) = TellsStop A i T l r work s u stop
+Onward A i T l r all left work s u (goes rest) = StandsBefore i T l r all left work s u rest
 
 abbrev pub is_true : Instance → List Entry → Store → Store → Walk → Bool
 is_true i T l r w = list_all (literal_truth i T l r) w.literals
@@ -85,7 +93,7 @@ is_true i T l r w = list_all (literal_truth i T l r) w.literals
 pub record OneStep (A : Type 0) (i : Instance) (T : List Entry) (l r : Store) (all : List Rest) (left : ℕ) (work : List Item) (s : Store) (found : List Walk) : Type 0 where
   pub literals : List Literal
   pub store : StoreTerm
-  pub next : Option Rest
+  pub next : Next
   pub only : filter (is_true i T l r) found ≡ record { literals = literals; store = store; next = next } ∷ []
   pub onward : Onward A i T l r all left work s store next
 
@@ -95,13 +103,19 @@ either_stands all false yes_rest no_rest h g = g
 
 -- ---- where the filled statement brings the run
 module _ (i : Instance) (s : Store) where
+  assert_comes : (t : Test) (behind : Rest) → truth (fill_test i t) s ≡ true → ComesByStep (act (assert_that (fill_test i t)) ∷ work_of i behind) s (work_of i behind) s
+  unfolding step
+  assert_comes t behind e =
+      let first : List Item = act (assert_that (fill_test i t)) ∷ work_of i behind in
+      subst (λ w. ComesByStep first s w s) (ap (λ b. cond b (work_of i behind) (halt ∷ work_of i behind)) e) (one_step (assert_that (fill_test i t)) (work_of i behind) s)
+
   if_comes : (t : Test) (c d : Block) (k m : ℕ) (behind : Rest) (b : Bool) → truth (fill_test i t) s ≡ b
       → ComesByStep (act (if_then (fill_test i t) (fill i c) (fill i d)) ∷ work_of i behind) s (work_of i (cond b (stretch k c ∷ behind) (stretch m d ∷ behind))) s
   unfolding step
   if_comes t c d k m behind b e =
       let first : List Item = act (if_then (fill_test i t) (fill i c) (fill i d)) ∷ work_of i behind in
       let chosen : List Item = cond (truth (fill_test i t) s) (before (fill i c) (work_of i behind)) (before (fill i d) (work_of i behind)) in
-      let one : ComesByStep first s chosen s = one_step (act (if_then (fill_test i t) (fill i c) (fill i d))) (work_of i behind) s in
+      let one : ComesByStep first s chosen s = one_step (if_then (fill_test i t) (fill i c) (fill i d)) (work_of i behind) s in
       subst (λ w. ComesByStep first s w s) (ap (λ x. cond x (before (fill i c) (work_of i behind)) (before (fill i d) (work_of i behind))) e ∙ chosen_work b) one
     where
       chosen_work : (x : Bool) → cond x (before (fill i c) (work_of i behind)) (before (fill i d) (work_of i behind)) ≡ work_of i (cond x (stretch k c ∷ behind) (stretch m d ∷ behind))
@@ -114,7 +128,7 @@ module _ (i : Instance) (s : Store) where
   while_comes t c k here behind b e same =
       let first : List Item = act (while_do (fill_test i t) (fill i c)) ∷ work_of i behind in
       let chosen : List Item = cond (truth (fill_test i t) s) (before (fill i c) first) (work_of i behind) in
-      let one : ComesByStep first s chosen s = one_step (act (while_do (fill_test i t) (fill i c))) (work_of i behind) s in
+      let one : ComesByStep first s chosen s = one_step (while_do (fill_test i t) (fill i c)) (work_of i behind) s in
       let chosen_is : chosen ≡ cond b (before (fill i c) (work_of i here)) (work_of i behind) =
       λ j. cond (e j) (before (fill i c) (sym same j)) (work_of i behind) in
       subst (λ w. ComesByStep w s (work_of i (cond b (stretch k c ∷ here) behind)) s) (sym same) (subst (λ w. ComesByStep first s w s) (chosen_is ∙ chosen_work b) one)
@@ -128,8 +142,15 @@ module _ (A : Type 0) (i : Instance) (T : List Entry) (l r : Store) (faithful : 
   more_true : (more : List Literal) → list_all (literal_truth i T l r) (ls ++ more) ≡ list_all (literal_truth i T l r) more
   more_true more = list_all-append (literal_truth i T l r) ls more ∙ truth_goes_on (list_all (literal_truth i T l r) ls) (list_all (literal_truth i T l r) more) so_far
 
+  -- a walk by these literals
+  abbrev walk_by : Next → List Literal → Walk
+  walk_by next more = record { literals = ls ++ more; store = u; next = next }
+
+  each_next : (found : List (List Literal)) (next : Next) → filter (is_true i T l r) (each_so found ls u next) ≡ map (walk_by next) (filter (list_all (literal_truth i T l r)) found)
+  each_next found next = filter-map (list_all (literal_truth i T l r)) (is_true i T l r) (walk_by next) more_true found
+
   each_true : (found : List (List Literal)) (rest : Rest) → filter (is_true i T l r) (by_each found ls u rest) ≡ map (λ more. stands (ls ++ more) u rest) (filter (list_all (literal_truth i T l r)) found)
-  each_true found rest = filter-map (list_all (literal_truth i T l r)) (is_true i T l r) (λ more. stands (ls ++ more) u rest) more_true found
+  each_true found rest = each_next found (goes rest)
 
   -- of the outcomes of a test one is true
   test_once : (t : Test) → test_is_open t ≡ true → (yes_rest no_rest : Rest) (b : Bool) → truth (fill_test i t) s ≡ b
@@ -165,26 +186,67 @@ module _ (A : Type 0) (i : Instance) (T : List Entry) (l r : Store) (faithful : 
   by_some_step : (left : ℕ) (work : List Item) (v : StoreTerm) (m : Store) (rest : Rest) → store_of i T l r v ≡ Some m → Stands all rest → ComesByStep work s (work_of i rest) m → StandsBefore i T l r all left work s v rest
   by_some_step left work v m rest e h c = record { store = m; means = e; placed = h; comes = c.comes; gets_on = inl c.some }
 
+  -- an `assert`, by its truth
+  assert_once : (t : Test) → test_is_open t ≡ true → (behind : Rest) → Stands all behind → (b : Bool) → truth (fill_test i t) s ≡ b
+      → OneStep A i T l r all (suc (rest_length behind)) (act (assert_that (fill_test i t)) ∷ work_of i behind) s (by_each (outcomes t true u) ls u behind ++ each_so (outcomes t false u) ls u (stops Halted))
+  assert_once t h behind placed true e =
+      let chosen : (z : List Literal) × (filter (list_all (literal_truth i T l r)) (outcomes t true u) ≡ z ∷ []) = true_outcome i T l r u s is_s t h true e in
+      let others : filter (list_all (literal_truth i T l r)) (outcomes t false u) ≡ [] = no_true_outcome i T l r u s is_s t h false (ap not e) in
+      record {
+        literals = ls ++ chosen.0;
+        store = u;
+        next = goes behind;
+        only =
+            in_first (is_true i T l r) (by_each (outcomes t true u) ls u behind) (each_so (outcomes t false u) ls u (stops Halted)) _
+            (each_next (outcomes t true u) (goes behind) ∙ ap (map (walk_by (goes behind))) chosen.1)
+            (each_next (outcomes t false u) (stops Halted) ∙ ap (map (walk_by (stops Halted))) others);
+        onward = by_some_step _ _ u s behind is_s placed (assert_comes i s t behind e);
+      }
+  assert_once t h behind placed false e =
+      let chosen : (z : List Literal) × (filter (list_all (literal_truth i T l r)) (outcomes t false u) ≡ z ∷ []) = true_outcome i T l r u s is_s t h false (ap not e) in
+      let others : filter (list_all (literal_truth i T l r)) (outcomes t true u) ≡ [] = no_true_outcome i T l r u s is_s t h true e in
+      record {
+        literals = ls ++ chosen.0;
+        store = u;
+        next = stops Halted;
+        only =
+            in_second (is_true i T l r) (by_each (outcomes t true u) ls u behind) (each_so (outcomes t false u) ls u (stops Halted)) _
+            (each_next (outcomes t true u) (goes behind) ∙ ap (map (walk_by (goes behind))) others)
+            (each_next (outcomes t false u) (stops Halted) ∙ ap (map (walk_by (stops Halted))) chosen.1);
+        onward = record { store = s; means = is_s; halts = assert_halts (fill_test i t) s (work_of i behind) e };
+      }
+
   -- a statement parameter, by what the table says of its run; it may stand for the empty block, but is no longer left
   par_once : (k : ℕ) (behind : Rest) → Stands all behind → (o : Option Store) → store_of i T l r (run k u) ≡ o → Agrees A i k s o
       → OneStep A i T l r all (suc (rest_length behind)) (before (append (block_at i k) (fill i (rest_statements behind))) []) s (
       stands (ls ++ record { sign = true; atom = Ends (run k u) } ∷ []) (run k u) behind
-      ∷ record { literals = ls ++ record { sign = false; atom = Ends (run k u) } ∷ []; store = run k u; next = None } ∷ [])
+      ∷ record { literals = ls ++ record { sign = false; atom = Ends (run k u) } ∷ []; store = u; next = stops (Stuck k) } ∷ [])
   par_once k behind h None e said = record {
     literals = ls ++ record { sign = false; atom = Ends (run k u) } ∷ [];
-    store = run k u;
-    next = None;
+    store = u;
+    next = stops (Stuck k);
     only = second_of_two (is_true i T l r) _ _ (ends_literal true k None e) (ends_literal false k None e);
-    onward = λ t reached.
+    onward =
         let parts : before (append (block_at i k) (fill i (rest_statements behind))) [] ≡ before (block_at i k) [] ++ work_of i behind =
         before-append (block_at i k) (fill i (rest_statements behind)) [] ∙ before-split (block_at i k) (work_of i behind) in
-        let way : Through (before (block_at i k) []) (work_of i behind) s t = through (before (block_at i k) []) (work_of i behind) s t (subst (λ w. Reaches w s t) parts reached) in
-        said way.between way.front;
+        record {
+          store = s;
+          means = is_s;
+          never_ends = λ t reached.
+              let way : Through (before (block_at i k) []) (work_of i behind) s (ended t) = through (before (block_at i k) []) (work_of i behind) s t (subst (λ w. Reaches w s (ended t)) parts reached) in
+              said way.between way.front;
+          halts_by_it = λ t reached.
+              elim (halts_through (before (block_at i k) []) (work_of i behind) s t (subst (λ w. Reaches w s (halted t)) parts reached)) [
+                | inl front ↦ inl front
+                | inr way ↦ inr (said way.between way.front)
+              ];
+          halts = λ t front. subst (λ w. Reaches w s (halted t)) (sym parts) (reaches_halt (before (block_at i k) []) (work_of i behind) s t front);
+        };
   }
   par_once k behind h (Some m) e said = record {
     literals = ls ++ record { sign = true; atom = Ends (run k u) } ∷ [];
     store = run k u;
-    next = Some behind;
+    next = goes behind;
     only = first_of_two (is_true i T l r) _ _ (ends_literal true k (Some m) e) (ends_literal false k (Some m) e);
     onward =
         let parts : before (append (block_at i k) (fill i (rest_statements behind))) [] ≡ before (block_at i k) [] ++ work_of i behind =
@@ -208,19 +270,20 @@ module _ (A : Type 0) (i : Instance) (T : List Entry) (l r : Store) (faithful : 
   stmt_once n skip b rest h here behind c = record {
     literals = ls;
     store = u;
-    next = Some (stretch (n + 0) b ∷ rest);
+    next = goes (stretch (n + 0) b ∷ rest);
     only = only_one (is_true i T l r) (stands ls u (stretch (n + 0) b ∷ rest)) so_far;
-    onward = by_some_step _ _ u s (stretch (n + 0) b ∷ rest) is_s behind (one_step (act skip) (work_of i (stretch (n + 0) b ∷ rest)) s);
+    onward = by_some_step _ _ u s (stretch (n + 0) b ∷ rest) is_s behind (one_step skip (work_of i (stretch (n + 0) b ∷ rest)) s);
   }
   stmt_once n (put x is e) b rest h here behind c = record {
     literals = ls;
     store = term.put u (number_of x) (values_at is u) (value_at e u);
-    next = Some (stretch (n + 0) b ∷ rest);
+    next = goes (stretch (n + 0) b ∷ rest);
     only = only_one (is_true i T l r) (stands ls (term.put u (number_of x) (values_at is u) (value_at e u)) (stretch (n + 0) b ∷ rest)) so_far;
     onward =
         by_some_step _ _ (term.put u (number_of x) (values_at is u) (value_at e u)) (write s (spelled (fill_name i x), values (fill_exprs i is) s) (value (fill_expr i e) s))
-        (stretch (n + 0) b ∷ rest) (put_means x is e h.names) behind (one_step (act (put (fill_name i x) (fill_exprs i is) (fill_expr i e))) (work_of i (stretch (n + 0) b ∷ rest)) s);
+        (stretch (n + 0) b ∷ rest) (put_means x is e h.names) behind (one_step (put (fill_name i x) (fill_exprs i is) (fill_expr i e)) (work_of i (stretch (n + 0) b ∷ rest)) s);
   }
+  stmt_once n (assert_that t) b rest h here behind k = assert_once t h.names (stretch (n + 0) b ∷ rest) behind (truth (fill_test i t) s) refl
   stmt_once n (if_then t c d) b rest h here behind k =
       let after : Rest = stretch (n + (point_count c + point_count d)) b ∷ rest in
       let way : Bool = truth (fill_test i t) s in
@@ -229,7 +292,7 @@ module _ (A : Type 0) (i : Instance) (T : List Entry) (l r : Store) (faithful : 
       record {
         literals = ls ++ one.0;
         store = u;
-        next = Some (cond way (stretch n c ∷ after) (stretch (n + point_count c) d ∷ after));
+        next = goes (cond way (stretch n c ∷ after) (stretch (n + point_count c) d ∷ after));
         only = one.1;
         onward =
             by_some_step _ _ u s (cond way (stretch n c ∷ after) (stretch (n + point_count c) d ∷ after)) is_s
@@ -246,7 +309,7 @@ module _ (A : Type 0) (i : Instance) (T : List Entry) (l r : Store) (faithful : 
       record {
         literals = ls ++ one.0;
         store = u;
-        next = Some (cond way (stretch (suc n) c ∷ before_it) after);
+        next = goes (cond way (stretch (suc n) c ∷ before_it) after);
         only = one.1;
         onward =
             by_some_step _ _ u s (cond way (stretch (suc n) c ∷ before_it) after) is_s
@@ -267,13 +330,17 @@ module _ (i : Instance) (T : List Entry) (l r : Store) (ls : List Literal) (u : 
   more_false : (more : List Literal) → list_all (literal_truth i T l r) (ls ++ more) ≡ false
   more_false more = list_all-append (literal_truth i T l r) ls more ∙ still_false (list_all (literal_truth i T l r) ls) (list_all (literal_truth i T l r) more) so_far
 
+  none_next : (found : List (List Literal)) (next : Next) → filter (is_true i T l r) (each_so found ls u next) ≡ []
+  none_next found next = none_made (list_all (literal_truth i T l r)) (is_true i T l r) (λ more. record { literals = ls ++ more; store = u; next = next }) more_false found
+
   none_each : (found : List (List Literal)) (rest : Rest) → filter (is_true i T l r) (by_each found ls u rest) ≡ []
-  none_each found rest = none_made (list_all (literal_truth i T l r)) (is_true i T l r) (λ more. stands (ls ++ more) u rest) more_false found
+  none_each found rest = none_next found (goes rest)
 
   stmt_never : (n : ℕ) (a : Stmt) (here behind : Rest) → filter (is_true i T l r) (stmt_step n a here behind ls u) ≡ []
   unfolding stmt_step
   stmt_never n skip here behind = not_one (is_true i T l r) (stands ls u behind) so_far
   stmt_never n (put x is e) here behind = not_one (is_true i T l r) (stands ls (term.put u (number_of x) (values_at is u) (value_at e u)) behind) so_far
+  stmt_never n (assert_that t) here behind = in_neither (is_true i T l r) _ _ (none_each (outcomes t true u) behind) (none_next (outcomes t false u) (stops Halted))
   stmt_never n (if_then t c d) here behind =
       in_neither (is_true i T l r) _ _ (none_each (outcomes t true u) (stretch n c ∷ behind)) (none_each (outcomes t false u) (stretch (n + point_count c) d ∷ behind))
   stmt_never n (while_do t c) here behind =

@@ -4,15 +4,16 @@ use Rattle.std.specs.Prelude.{◌≡◌, ℕ, zero, suc, ◌+◌, ◌≤◌, max
 use Rattle.std.proofs.Common.{sym, ◌∙◌, ap, subst, arith}
 use Rattle.std.specs.List.{list_any}
 use Rattle.std.proofs.lemmas.List.Folds.{list_any-append}
-use Rattle.toy_imp.specs.Block.{Stmt, skip, put, if_then, while_do, for_to, let_in, par_stmt, Block, empty, stmt}
+use Rattle.toy_imp.specs.Block.{Stmt, skip, put, assert_that, if_then, while_do, for_to, let_in, par_stmt, Block, empty, stmt}
 use Rattle.toy_imp.specs.Points.{point_count}
 use Rattle.toy_imp.specs.Test.{Test}
 use Rattle.rule_terms.specs.Term.{StoreTerm}
 use Rattle.rule_terms.specs.declared.obligation.Literal.{Literal}
-use Rattle.rule_terms.specs.declared.path.Stop.TheVariants.{At}
+use Rattle.rule_terms.specs.declared.path.Stop.{Stop}
+use Rattle.rule_terms.specs.declared.path.Stop.TheVariants.{At, Halted}
 use Rattle.path_pairs.specs.Outcomes.{outcomes}
 use Rattle.path_pairs.specs.Rests.{Rest, stretch}
-use Rattle.path_pairs.specs.Walks.{stands, by_each, stmt_step, is_cut, goes_on}
+use Rattle.path_pairs.specs.Walks.{Next, goes, stops, stands, each_so, by_each, stmt_step, is_cut, goes_on}
 use Rattle.path_pairs.specs.Along.{passes, most_steps, rest_steps}
 use Rattle.path_pairs.proofs.OutcomeLengths.{as_many_outcomes, some_outcome}
 use Rattle.path_pairs.proofs.Stopping.{passed, blocked}
@@ -74,11 +75,30 @@ test_goes k cuts exit t yes_rest no_rest x y h g ls s =
     let second : list_any (goes_on k cuts exit) (by_each (outcomes t false s) ls s no_rest) ≡ y = each_goes k cuts exit no_rest y g (outcomes t false s) ls s (some_way t false s) in
     list_any-append (goes_on k cuts exit) (by_each (outcomes t true s) ls s yes_rest) (by_each (outcomes t false s) ls s no_rest) ∙ (λ i. first i || second i)
 
-pub stuck_stays : (k : ℕ) (cuts : List ℕ) (exit m : ℕ) (ls : List Literal) (s : StoreTerm)
-    → (reaches k m || (goes_on k cuts exit (record { literals = ls; store = s; next = None }) || false)) ≡ reaches k m
+pub stuck_stays : (k : ℕ) (cuts : List ℕ) (exit m : ℕ) (ls : List Literal) (s : StoreTerm) (stop : Stop)
+    → (reaches k m || (goes_on k cuts exit (record { literals = ls; store = s; next = stops stop }) || false)) ≡ reaches k m
 unfolding goes_on
-stuck_stays zero cuts exit m ls s = refl
-stuck_stays (suc k) cuts exit m ls s = or_false (reaches (suc k) m)
+stuck_stays zero cuts exit m ls s stop = refl
+stuck_stays (suc k) cuts exit m ls s stop = or_false (reaches (suc k) m)
+
+-- the outcomes in which an `assert` is false go on no further
+none_goes : (k : ℕ) (cuts : List ℕ) (exit : ℕ) (found : List (List Literal)) (ls : List Literal) (s : StoreTerm) (stop : Stop) → list_any (goes_on (suc k) cuts exit) (each_so found ls s (stops stop)) ≡ false
+unfolding goes_on
+none_goes k cuts exit [] ls s stop = refl
+none_goes k cuts exit (x ∷ found) ls s stop = none_goes k cuts exit found ls s stop
+
+halting_stays : (k : ℕ) (cuts : List ℕ) (exit m : ℕ) (found : List (List Literal)) (ls : List Literal) (s : StoreTerm) (stop : Stop)
+    → (reaches k m || list_any (goes_on k cuts exit) (each_so found ls s (stops stop))) ≡ reaches k m
+halting_stays zero cuts exit m found ls s stop = refl
+halting_stays (suc k) cuts exit m found ls s stop = ap (λ x. reaches (suc k) m || x) (none_goes k cuts exit found ls s stop) ∙ or_false (reaches (suc k) m)
+
+pub assert_goes : (k : ℕ) (cuts : List ℕ) (exit : ℕ) (t : Test) (behind : Rest) (m : ℕ) → GoesAs k cuts exit behind (reaches k m)
+    → (ls : List Literal) (s : StoreTerm) → list_any (goes_on k cuts exit) (by_each (outcomes t true s) ls s behind ++ each_so (outcomes t false s) ls s (stops Halted)) ≡ reaches k m
+assert_goes k cuts exit t behind m h ls s =
+    let first : list_any (goes_on k cuts exit) (by_each (outcomes t true s) ls s behind) ≡ reaches k m = each_goes k cuts exit behind _ h (outcomes t true s) ls s (some_way t true s) in
+    list_any-append (goes_on k cuts exit) (by_each (outcomes t true s) ls s behind) (each_so (outcomes t false s) ls s (stops Halted))
+    ∙ (λ i. first i || list_any (goes_on k cuts exit) (each_so (outcomes t false s) ls s (stops Halted)))
+    ∙ halting_stays k cuts exit m (outcomes t false s) ls s Halted
 
 -- a `while` that is no cut point
 loop_goes : (k : ℕ) (cuts : List ℕ) (exit : ℕ) → suc k ≤ 65 → Exact k cuts exit → (n : ℕ) (t : Test) (c : Block) (here behind : Rest) (p : Bool) → passes cuts (suc n) c ≡ p
@@ -105,21 +125,22 @@ while_goes : (k : ℕ) (cuts : List ℕ) (exit : ℕ) → suc k ≤ 65 → Exact
 while_goes k cuts exit small h n t c here behind true d ls s = refl
 while_goes k cuts exit small h n t c here behind false d ls s = loop_goes k cuts exit small h n t c here behind (passes cuts (suc n) c) refl d ls s
 
-par_goes : (k : ℕ) (cuts : List ℕ) (exit : ℕ) → Exact k cuts exit → (n : ℕ) (behind : Rest) (q : Bool) (ls more : List Literal) (s : StoreTerm)
+par_goes : (k : ℕ) (cuts : List ℕ) (exit : ℕ) → Exact k cuts exit → (n : ℕ) (behind : Rest) (q : Bool) (ls more : List Literal) (s u : StoreTerm) (stop : Stop)
     → elim (cond q (Some (At n)) None) as (λ o. Bool) [
-      | None ↦ goes_on k cuts exit (stands ls s behind) || (goes_on k cuts exit (record { literals = more; store = s; next = None }) || false)
-      | Some stop ↦ false
+      | None ↦ goes_on k cuts exit (stands ls s behind) || (goes_on k cuts exit (record { literals = more; store = u; next = stops stop }) || false)
+      | Some at ↦ false
     ]
     ≡ reaches (suc k) (cond q 0 (suc (rest_steps cuts behind)))
-par_goes k cuts exit h n behind true ls more s = refl
-par_goes k cuts exit h n behind false ls more s =
-    ap (λ x. x || (goes_on k cuts exit (record { literals = more; store = s; next = None }) || false)) (h behind ls s)
-    ∙ stuck_stays k cuts exit (rest_steps cuts behind) more s
+par_goes k cuts exit h n behind true ls more s u stop = refl
+par_goes k cuts exit h n behind false ls more s u stop =
+    ap (λ x. x || (goes_on k cuts exit (record { literals = more; store = u; next = stops stop }) || false)) (h behind ls s)
+    ∙ stuck_stays k cuts exit (rest_steps cuts behind) more u stop
 
 stmt_goes : (k : ℕ) (cuts : List ℕ) (exit : ℕ) → suc k ≤ 65 → Exact k cuts exit → (n : ℕ) (a : Stmt) (b : Block) (rest : Rest) → GoesAs (suc k) cuts exit (stretch n (stmt a b) ∷ rest) (reaches (suc k) (rest_steps cuts (stretch n (stmt a b) ∷ rest)))
 unfolding goes_on stmt_step
 stmt_goes k cuts exit small h n skip b rest ls s = ap (λ x. x || false) (h (stretch (n + 0) b ∷ rest) ls s) ∙ or_false _
 stmt_goes k cuts exit small h n (put x is e) b rest ls s = ap (λ y. y || false) (h (stretch (n + 0) b ∷ rest) ls _) ∙ or_false _
+stmt_goes k cuts exit small h n (assert_that t) b rest ls s = assert_goes k cuts exit t (stretch (n + 0) b ∷ rest) _ (h (stretch (n + 0) b ∷ rest)) ls s
 stmt_goes k cuts exit small h n (if_then t c d) b rest ls s =
     test_goes k cuts exit t _ _ _ _ (h (stretch n c ∷ stretch (n + (point_count c + point_count d)) b ∷ rest)) (h (stretch (n + point_count c) d ∷ stretch (n + (point_count c + point_count d)) b ∷ rest)) ls s
     ∙ reaches_max k _ _
@@ -127,7 +148,7 @@ stmt_goes k cuts exit small h n (while_do t c) b rest ls s =
     while_goes k cuts exit small h n t c (stretch n (stmt (while_do t c) b) ∷ rest) (stretch (n + suc (point_count c)) b ∷ rest) (is_cut cuts n) refl ls s
 stmt_goes k cuts exit small h n (for_to x lo hi c) b rest ls s = refl
 stmt_goes k cuts exit small h n (let_in x e c) b rest ls s = refl
-stmt_goes k cuts exit small h n (par_stmt j) b rest ls s = par_goes k cuts exit h n (stretch (n + 1) b ∷ rest) (is_cut cuts n) _ _ _
+stmt_goes k cuts exit small h n (par_stmt j) b rest ls s = par_goes k cuts exit h n (stretch (n + 1) b ∷ rest) (is_cut cuts n) _ _ _ _ _
 
 rest_goes : (k : ℕ) (cuts : List ℕ) (exit : ℕ) → suc k ≤ 65 → Exact k cuts exit → Exact (suc k) cuts exit
 unfolding goes_on

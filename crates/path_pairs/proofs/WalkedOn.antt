@@ -17,7 +17,7 @@ use Rattle.rule_terms.specs.declared.obligation.Atom.TheVariants.{Ends}
 use Rattle.rule_terms.specs.declared.obligation.Literal.{Literal}
 use Rattle.rule_terms.specs.declared.path.Path.{Path}
 use Rattle.rule_terms.specs.declared.path.Stop.{Stop}
-use Rattle.rule_terms.specs.declared.path.Stop.TheVariants.{Stuck}
+use Rattle.rule_terms.specs.declared.path.Stop.TheVariants.{Halted, Stuck}
 use Rattle.path_pairs.specs.declared.refusal.PathRefusal.{PathRefusal}
 use Rattle.path_pairs.specs.Open.{test_is_open, stmt_is_open, block_is_open}
 use Rattle.path_pairs.specs.Outcomes.{outcomes}
@@ -25,7 +25,7 @@ use Rattle.path_pairs.specs.PathAnswers.{Adds}
 use Rattle.path_pairs.specs.Paths.{is_large_path}
 use Rattle.path_pairs.specs.Rests.{Rest, stretch}
 use Rattle.path_pairs.specs.Walkable.{IsWalkable, AreWalkable, IsStanding}
-use Rattle.path_pairs.specs.Walks.{Walk, stands, by_each, stmt_step, rest_step, rest_stop, walks, goes_on}
+use Rattle.path_pairs.specs.Walks.{Next, goes, stops, Walk, stands, each_so, by_each, stmt_step, rest_step, rest_stop, walks, goes_on}
 use Rattle.path_pairs.proofs.Stopping.{or_neither}
 use Rattle.path_pairs.proofs.FromNext.{step_some}
 
@@ -141,10 +141,15 @@ while_step n m a t b here behind yes_rest ls s e k f =
     ∙ ap (λ j. by_each (outcomes t true s) ls s (stretch j b ∷ here) ++ by_each (outcomes t false s) ls s behind) (sym k)
     ∙ ap (λ r. by_each (outcomes t true s) ls s r ++ by_each (outcomes t false s) ls s behind) (sym f)
 
-stuck_walks : (k : ℕ) (cuts : List ℕ) (exit : ℕ) (ls : List Literal) (s : StoreTerm) → walks k cuts exit (record { literals = ls; store = s; next = None }) ≡ record { literals = ls; store = s; stop = Stuck } ∷ []
+pub assert_step : (n : ℕ) (a : Stmt) (t : Test) (here behind : Rest) (ls : List Literal) (s : StoreTerm) → a ≡ assert_that t
+    → stmt_step n a here behind ls s ≡ by_each (outcomes t true s) ls s behind ++ each_so (outcomes t false s) ls s (stops Halted)
+unfolding stmt_step
+assert_step n a t here behind ls s e = ap (λ y. stmt_step n y here behind ls s) e
+
+pub stopped_walks : (k : ℕ) (cuts : List ℕ) (exit : ℕ) (ls : List Literal) (s : StoreTerm) (stop : Stop) → walks k cuts exit (record { literals = ls; store = s; next = stops stop }) ≡ record { literals = ls; store = s; stop = stop } ∷ []
 unfolding walks
-stuck_walks zero cuts exit ls s = refl
-stuck_walks (suc k) cuts exit ls s = refl
+stopped_walks zero cuts exit ls s stop = refl
+stopped_walks (suc k) cuts exit ls s stop = refl
 
 pub par_ends : (k : ℕ) (cuts : List ℕ) (exit n j : ℕ) (a : Stmt) (here behind : Rest) (ls : List Literal) (s : StoreTerm) → a ≡ par_stmt j
     → list_any (goes_on (suc k) cuts exit) (stmt_step n a here behind ls s) ≡ false
@@ -157,14 +162,14 @@ par_ends k cuts exit n j a here behind ls s e h =
 pub par_adds : {A : Type 0} (k : ℕ) (cuts : List ℕ) (exit n j : ℕ) (a : Stmt) (here behind : Rest) (ls : List Literal) (s : StoreTerm) (before after : List Path) (r : Result A PathRefusal)
     → a ≡ par_stmt j
     → Adds (walks k cuts exit (stands (ls ++ record { sign = true; atom = Ends (term.run j s) } ∷ []) (term.run j s) behind)
-    ++ record { literals = ls ++ record { sign = false; atom = Ends (term.run j s) } ∷ []; store = term.run j s; stop = Stuck } ∷ []) before after r
+    ++ record { literals = ls ++ record { sign = false; atom = Ends (term.run j s) } ∷ []; store = s; stop = Stuck j } ∷ []) before after r
     → Adds (flat_map (walks k cuts exit) (stmt_step n a here behind ls s)) before after r
 unfolding stmt_step
 par_adds k cuts exit n j a here behind ls s before after r e h =
     subst (λ f. Adds f before after r)
     (sym (ap (λ y. flat_map (walks k cuts exit) (stmt_step n y here behind ls s)) e
     ∙ ap (λ f. walks k cuts exit (stands (ls ++ record { sign = true; atom = Ends (term.run j s) } ∷ []) (term.run j s) behind) ++ (f ++ []))
-    (stuck_walks k cuts exit (ls ++ record { sign = false; atom = Ends (term.run j s) } ∷ []) (term.run j s)))) h
+    (stopped_walks k cuts exit (ls ++ record { sign = false; atom = Ends (term.run j s) } ∷ []) s (Stuck j)))) h
 
 -- what is asked of the parts of a statement
 opened : (n : ℕ) (a : Stmt) → IsWalkable n (stmt a empty) → stmt_is_open a ≡ true

@@ -1,7 +1,7 @@
 -- Over a side with its cut points: how far walks go before they stop, and how many they are, by its statements alone.
 -- What is said of a list of statements takes what is said of what comes after it.
 use Rattle.std.specs.Prelude.{ℕ, zero, suc, ◌+◌, ◌*◌, max, Bool, true, false, cond, not, ◌&&◌, ◌||◌, List, [], ◌∷◌}
-use Rattle.toy_imp.specs.Block.{Stmt, skip, put, if_then, while_do, for_to, let_in, par_stmt, Block, empty, stmt}
+use Rattle.toy_imp.specs.Block.{Stmt, skip, put, assert_that, if_then, while_do, for_to, let_in, par_stmt, Block, empty, stmt}
 use Rattle.toy_imp.specs.Points.{stmt_count, point_count}
 use Rattle.path_pairs.specs.OutcomeCounts.{outcome_count}
 use Rattle.path_pairs.specs.Rests.{Rest, stretch}
@@ -12,6 +12,7 @@ abbrev mutual
   pub stmt_passes : List ℕ → ℕ → Stmt → Bool
   stmt_passes cuts n skip = true
   stmt_passes cuts n (put x is e) = true
+  stmt_passes cuts n (assert_that t) = true
   stmt_passes cuts n (if_then t b c) = passes cuts n b || passes cuts (n + point_count b) c
   stmt_passes cuts n (while_do t b) = not (is_cut cuts n)
   stmt_passes cuts n (for_to x lo hi b) = false
@@ -27,6 +28,7 @@ abbrev mutual
   pub stmt_steps : List ℕ → ℕ → Stmt → ℕ → ℕ
   stmt_steps cuts n skip after = suc after
   stmt_steps cuts n (put x is e) after = suc after
+  stmt_steps cuts n (assert_that t) after = suc after
   stmt_steps cuts n (if_then t b c) after = suc (max (most_steps cuts n b after) (most_steps cuts (n + point_count b) c after))
   stmt_steps cuts n (while_do t b) after = cond (is_cut cuts n) 0 (cond (passes cuts (suc n) b) 65 (suc (max (most_steps cuts (suc n) b 0) after)))
   stmt_steps cuts n (for_to x lo hi b) after = 0
@@ -41,11 +43,13 @@ abbrev pub rest_steps : List ℕ → Rest → ℕ
 rest_steps cuts [] = 0
 rest_steps cuts (stretch n b ∷ rest) = most_steps cuts n b (rest_steps cuts rest)
 
--- how many walks there are up to their stop, where this many go on behind and no loop goes on
+-- how many walks there are up to their stop, where this many go on behind and no loop goes on; each outcome in which an `assert` is
+-- false is one that stops there
 abbrev mutual
   pub stmt_walks : List ℕ → ℕ → Stmt → ℕ → ℕ
   stmt_walks cuts n skip after = after
   stmt_walks cuts n (put x is e) after = after
+  stmt_walks cuts n (assert_that t) after = outcome_count t true * after + outcome_count t false * 1
   stmt_walks cuts n (if_then t b c) after = outcome_count t true * walk_count cuts n b after + outcome_count t false * walk_count cuts (n + point_count b) c after
   stmt_walks cuts n (while_do t b) after = cond (is_cut cuts n) 1 (outcome_count t true * walk_count cuts (suc n) b 0 + outcome_count t false * after)
   stmt_walks cuts n (for_to x lo hi b) after = 0
@@ -65,6 +69,7 @@ rest_walks cuts (stretch n b ∷ rest) = walk_count cuts n b (rest_walks cuts re
 abbrev pub stmt_onward : List ℕ → ℕ → Stmt → ℕ → ℕ → ℕ
 stmt_onward cuts n skip here behind = behind
 stmt_onward cuts n (put x is e) here behind = behind
+stmt_onward cuts n (assert_that t) here behind = behind
 stmt_onward cuts n (if_then t b c) here behind = max (most_steps cuts n b behind) (most_steps cuts (n + point_count b) c behind)
 stmt_onward cuts n (while_do t b) here behind = max (most_steps cuts (suc n) b here) behind
 stmt_onward cuts n (for_to x lo hi b) here behind = 0
@@ -81,6 +86,7 @@ rest_onward cuts (stretch n (stmt a b) ∷ rest) =
 abbrev pub stmt_branches : List ℕ → ℕ → Stmt → ℕ → ℕ → ℕ
 stmt_branches cuts n skip here behind = behind
 stmt_branches cuts n (put x is e) here behind = behind
+stmt_branches cuts n (assert_that t) here behind = outcome_count t true * behind + outcome_count t false * 1
 stmt_branches cuts n (if_then t b c) here behind = outcome_count t true * walk_count cuts n b behind + outcome_count t false * walk_count cuts (n + point_count b) c behind
 stmt_branches cuts n (while_do t b) here behind = outcome_count t true * walk_count cuts (suc n) b here + outcome_count t false * behind
 stmt_branches cuts n (for_to x lo hi b) here behind = 0

@@ -8,16 +8,17 @@ use Rattle.std.specs.List.{list_all}
 use Rattle.toy_imp.specs.declared.instance.Instance.{Instance}
 use Rattle.toy_imp.specs.declared.rule.Rule.{Rule}
 use Rattle.toy_imp.specs.Block.{Block, empty, stmt}
-use Rattle.toy_imp.specs.Ends.{Reaches}
+use Rattle.toy_imp.specs.Ends.{Reaches, Halts}
 use Rattle.toy_imp.specs.Faults.{has_scope}
-use Rattle.toy_imp.specs.Fill.{fill}
+use Rattle.toy_imp.specs.Fill.{block_at, fill}
 use Rattle.toy_imp.specs.Points.{exit_point}
-use Rattle.toy_imp.specs.Run.{Item, before, run}
+use Rattle.toy_imp.specs.Run.{Item, before, Outcome, ended, halted, run}
 use Rattle.toy_imp.specs.Store.{Store}
 use Rattle.rule_terms.specs.Term.{StoreTerm}
+use Rattle.rule_terms.specs.Term as term
 use Rattle.rule_terms.specs.declared.path.Path.{Path}
 use Rattle.rule_terms.specs.declared.path.Stop.{Stop}
-use Rattle.rule_terms.specs.declared.path.Stop.TheVariants.{At, Stuck}
+use Rattle.rule_terms.specs.declared.path.Stop.TheVariants.{At, Halted, Stuck}
 use Rattle.term_meaning.specs.Table.{Entry, Faithful}
 use Rattle.term_meaning.specs.Meaning.{store_of, literal_truth, CoversStore, Reached}
 use Rattle.path_pairs.specs.declared.cut_points.CutPoints.{CutPoints}
@@ -43,10 +44,14 @@ its_store Right l r = r
 abbrev pub is_taken : Instance → List Entry → Store → Store → Path → Bool
 is_taken i T l r path = list_all (literal_truth i T l r) path.literals
 
--- the table covers the store terms of paths
+-- the store term of a path; of one that is stuck, the run that does not end from there
+abbrev pub last_term : Path → StoreTerm
+last_term path = elim path.stop [ At q ↦ path.store | Halted ↦ path.store | Stuck k ↦ term.run k path.store ]
+
+-- the table covers these terms of paths
 abbrev pub CoversStores : Instance → List Entry → Store → Store → List Path → Type 0
 CoversStores i T l r [] = Unit {0}
-CoversStores i T l r (path ∷ all) = CoversStore i T l r path.store × CoversStores i T l r all
+CoversStores i T l r (path ∷ all) = CoversStore i T l r (last_term path) × CoversStores i T l r all
 
 -- the number of statements of a block, not counting those inside
 abbrev pub block_length : Block → ℕ
@@ -73,10 +78,26 @@ pub record StopsAt (i : Instance) (T : List Entry) (l r : Store) (side : Block) 
   pub comes : Comes work s (work_at i side q) store
   pub gets_on : GetsOn comes.steps (left_count side q) left
 
--- What a path tells, by its stop. Where it is stuck: an end of the run gives the answer A.
+-- What a path tells that halts: its store term means a store, and the run halts in it.
+pub record HaltsThere (i : Instance) (T : List Entry) (l r : Store) (work : List Item) (s : Store) (u : StoreTerm) : Type 0 where
+  pub store : Store
+  pub means : store_of i T l r u ≡ Some store
+  pub halts : Reaches work s (halted store)
+
+-- What a path tells that is stuck before the statement parameter k: its store term means a store; an end of the run gives the answer
+-- A; and the run halts in t exactly where what stands for k halts in t from that store, but for a run that gives the answer A too.
+pub record StuckThere (A : Type 0) (i : Instance) (T : List Entry) (l r : Store) (work : List Item) (s : Store) (u : StoreTerm) (k : ℕ) : Type 0 where
+  pub store : Store
+  pub means : store_of i T l r u ≡ Some store
+  pub never_ends : (t : Store) → Reaches work s (ended t) → A
+  pub halts_by_it : (t : Store) → Reaches work s (halted t) → Halts (block_at i k) store t ⊎ A
+  pub halts : (t : Store) → Halts (block_at i k) store t → Reaches work s (halted t)
+
+-- What a path tells, by its stop.
 abbrev pub Tells : Type 0 → Instance → List Entry → Store → Store → Block → ℕ → List Item → Store → StoreTerm → Stop → Type 0
 Tells A i T l r side left work s u (At q) = StopsAt i T l r side left work s u q
-Tells A i T l r side left work s u Stuck = (t : Store) → Reaches work s t → A
+Tells A i T l r side left work s u Halted = HaltsThere i T l r work s u
+Tells A i T l r side left work s u (Stuck k) = StuckThere A i T l r work s u k
 
 -- exactly one of some paths is taken
 pub record OnePath (A : Type 0) (i : Instance) (T : List Entry) (l r : Store) (side : Block) (left : ℕ) (work : List Item) (s : Store) (all : List Path) : Type 0 where
@@ -90,11 +111,11 @@ PathLaw = (f : ℕ → Bool) (i : Instance) (T : List Entry) (l r : Store) → F
     → has_long_walk (side_of rule side) (cuts_of cuts side) (term_of side) p ≡ false → CoversStores i T l r (paths rule cuts side p)
     → OnePath (Reached f) i T l r (side_of rule side) (left_count (side_of rule side) p) (work_at i (side_of rule side) p) (its_store side l r) (paths rule cuts side p)
 
--- A run that comes to other work goes on with it: it ends exactly where that other work ends, in the steps that are left.
+-- A run that comes to other work goes on with it: it has exactly the outcome that the other work has, in the steps that are left.
 pub record GoesOn (first : List Item) (s : Store) (second : List Item) (m : Store) (steps : ℕ) : Type 0 where
   pub more : (n : ℕ) → run (steps + n) first s ≡ run n second m
-  pub left : (n : ℕ) (t : Store) → run n first s ≡ Some t → (steps ≤ n) × (run (n - steps) second m ≡ Some t)
-  pub ends : (t : Store) → Reaches first s t ↔ Reaches second m t
+  pub left : (n : ℕ) (o : Outcome) → run n first s ≡ Some o → (steps ≤ n) × (run (n - steps) second m ≡ Some o)
+  pub outcome : (o : Outcome) → Reaches first s o ↔ Reaches second m o
 
 abbrev pub RunGoesOn : Type 0
 RunGoesOn = (first second : List Item) (s m : Store) (c : Comes first s second m) → GoesOn first s second m c.steps
@@ -104,4 +125,4 @@ abbrev pub AllIsLeftAtStart : Type 0
 AllIsLeftAtStart = (i : Instance) (side : Block) → work_at i side 0 ≡ before (fill i side) []
 
 abbrev pub RunEndsAtExit : Type 0
-RunEndsAtExit = (i : Instance) (side : Block) → has_scope side ≡ false → (work : List Item) (s m : Store) → Comes work s (work_at i side (exit_point side)) m → Reaches work s m
+RunEndsAtExit = (i : Instance) (side : Block) → has_scope side ≡ false → (work : List Item) (s m : Store) → Comes work s (work_at i side (exit_point side)) m → Reaches work s (ended m)

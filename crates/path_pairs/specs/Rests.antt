@@ -2,7 +2,7 @@
 -- They are program locations in the usual sense.
 use Rattle.std.specs.Prelude.{ℕ, suc, ◌+◌, List, [], ◌∷◌, ◌++◌}
 use Rattle.std.specs.Prelude.{slice_index_or}
-use Rattle.toy_imp.specs.Block.{Stmt, skip, put, if_then, while_do, for_to, let_in, par_stmt, Block, empty, stmt, append}
+use Rattle.toy_imp.specs.Block.{Stmt, skip, put, assert_that, if_then, while_do, for_to, let_in, par_stmt, Block, empty, stmt, append}
 use Rattle.toy_imp.specs.Points.{stmt_count, point_count}
 
 -- the number of the first point in some statements of a side, and the statements
@@ -24,6 +24,7 @@ abbrev mutual
   pub stmt_rests : ℕ → Stmt → Rest → Rest → List Rest
   stmt_rests n skip here behind = []
   stmt_rests n (put x is e) here behind = []
+  stmt_rests n (assert_that t) here behind = []
   stmt_rests n (if_then t b c) here behind = block_rests n b behind ++ block_rests (n + point_count b) c behind
   stmt_rests n (while_do t b) here behind = here ∷ block_rests (suc n) b here
   stmt_rests n (for_to x lo hi b) here behind = []

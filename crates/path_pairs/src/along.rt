@@ -41,6 +41,7 @@ pub fn stmt_points(s: &Stmt) -> u64
     match &s.node {
         StmtNode::Skip => 0,
         StmtNode::Put(_, _, _) => 0,
+        StmtNode::Assert(_) => 0,
         StmtNode::If(_, b, c) => block_points(b).saturating_add(block_points(c)),
         StmtNode::While(_, b) => block_points(b).saturating_add(1),
         StmtNode::For(_, _, _, b) => block_points(b),
@@ -82,6 +83,7 @@ fn stmt_passes(cuts: &[u32], n: u64, s: &Stmt) -> bool
     match &s.node {
         StmtNode::Skip => true,
         StmtNode::Put(_, _, _) => true,
+        StmtNode::Assert(_) => true,
         StmtNode::If(_, b, c) => passes(cuts, n, b) || passes(cuts, n + block_points(b), c),
         StmtNode::While(_, _) => !is_cut(cuts, n),
         StmtNode::For(_, _, _, _) => false,
@@ -139,6 +141,7 @@ pub fn stmt_steps(cuts: &[u32], n: u64, s: &Stmt, after: u64) -> u64
     match &s.node {
         StmtNode::Skip => one_more(after),
         StmtNode::Put(_, _, _) => one_more(after),
+        StmtNode::Assert(_) => one_more(after),
         StmtNode::If(_, b, c) => {
             let yes = most_steps(cuts, n, b, after);
             let no = most_steps(cuts, n + block_points(b), c, after);
@@ -203,6 +206,7 @@ pub fn stmt_walks(cuts: &[u32], n: u64, s: &Stmt, after: u64) -> u64
     match &s.node {
         StmtNode::Skip => after,
         StmtNode::Put(_, _, _) => after,
+        StmtNode::Assert(t) => by_outcomes(t, after, 1),
         StmtNode::If(t, b, c) => {
             let yes = walk_count(cuts, n, b, after);
             let no = walk_count(cuts, n + block_points(b), c, after);

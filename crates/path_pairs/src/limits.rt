@@ -53,6 +53,7 @@ fn stmt_onward(cuts: &[u32], n: u64, s: &Stmt, here: u64, behind: u64) -> u64
     match &s.node {
         StmtNode::Skip => behind,
         StmtNode::Put(_, _, _) => behind,
+        StmtNode::Assert(_) => behind,
         StmtNode::If(_, b, c) => {
             let then = most_steps(cuts, n, b, behind);
             let or_else = most_steps(cuts, n + block_points(b), c, behind);
@@ -74,6 +75,7 @@ fn stmt_branches(cuts: &[u32], n: u64, s: &Stmt, here: u64, behind: u64) -> u64
     match &s.node {
         StmtNode::Skip => behind,
         StmtNode::Put(_, _, _) => behind,
+        StmtNode::Assert(t) => by_outcomes(t, behind, 1),
         StmtNode::If(t, b, c) => {
             let then = walk_count(cuts, n, b, behind);
             let or_else = walk_count(cuts, n + block_points(b), c, behind);

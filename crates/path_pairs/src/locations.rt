@@ -110,6 +110,7 @@ fn way_to<'a>(first: u64, stmts: &'a [Stmt], p: u64) -> Way<'a>
         }
         StmtNode::Skip => unreachable!(),
         StmtNode::Put(_, _, _) => unreachable!(),
+        StmtNode::Assert(_) => unreachable!(),
         StmtNode::For(_, _, _, _) => unreachable!(),
         StmtNode::Let(_, _, _) => unreachable!(),
     }

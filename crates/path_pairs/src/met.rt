@@ -168,7 +168,29 @@ impl Met {
         })
     }
 
-    /// With the store in which a statement parameter ends, if it does, and that it does or does not.
+    /// With that a statement parameter does not end from the store.
+    pub fn stuck(&self, alloc: Global, k: u32) -> Result<Met, PathRefusal>
+        ensures literals { IfOk result (λ m. m.literals ≡ self.now.literals ++ record { sign = false; atom = Ends (run k self.now.store) } ∷ []) }
+        ensures store { IfOk result (λ m. m.store ≡ self.now.store) }
+        ensures err { IfErr result (λ r. RefusesNodes (literals_nodes (self.now.literals ++ record { sign = false; atom = Ends (run k self.now.store) } ∷ []) + store_nodes self.now.store) r) }
+    {
+        let of_literals = self.of_literals + (self.of_store + 2);
+        let nodes = of_literals + self.of_store;
+        if nodes > MOST_NODES {
+            return Err(PathRefusal::Limit(LimitKind::PathNodes));
+        }
+        let run = ended(alloc, k, &self.store)?;
+        let literals = with_end(alloc, self.literals.as_slice(), false, &run)?;
+        let store = self.store.copy(alloc)?;
+        Ok(Met {
+            literals,
+            of_literals,
+            store,
+            of_store: self.of_store,
+        })
+    }
+
+    /// With the store in which a statement parameter ends.
     pub fn run(&self, alloc: Global, k: u32, ends: bool) -> Result<Met, PathRefusal>
         ensures literals { IfOk result (λ m. m.literals ≡ self.now.literals ++ record { sign = ends; atom = Ends (run k self.now.store) } ∷ []) }
         ensures store { IfOk result (λ m. m.store ≡ run k self.now.store) }

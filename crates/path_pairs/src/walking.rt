@@ -10,7 +10,7 @@ ghost use Rattle.rule_terms.specs.Counts.{store_nodes, literals_nodes};
 ghost use Rattle.rule_terms.specs.Term.{put, run};
 ghost use Rattle.rule_terms.specs.ValueAt.{is_open, names_are_open, all_names_are_open, number_of, value_at, values_at};
 ghost use Rattle.rule_terms.specs.declared.obligation.Atom.TheVariants.{Ends};
-ghost use Rattle.rule_terms.specs.declared.path.Stop.TheVariants.{Stuck};
+ghost use Rattle.rule_terms.specs.declared.path.Stop.TheVariants.{Halted, Stuck};
 ghost use Rattle.path_pairs.specs.NodeCounts.{outcome_nodes};
 ghost use Rattle.path_pairs.specs.Open.{test_is_open};
 ghost use Rattle.path_pairs.specs.Outcomes.{outcomes};
@@ -18,7 +18,7 @@ ghost use Rattle.path_pairs.specs.PathAnswers.{Adds};
 ghost use Rattle.path_pairs.specs.Rests.{stretch};
 ghost use Rattle.path_pairs.specs.Stretches.{stretch_of, rest_of};
 ghost use Rattle.path_pairs.specs.Walkable.{IsWalkable, AreWalkable};
-ghost use Rattle.path_pairs.specs.Walks.{stands, by_each, stmt_step, stmt_stop, rest_stop, rest_step, walks, goes_on};
+ghost use Rattle.path_pairs.specs.Walks.{stands, by_each, halting_paths, stmt_step, stmt_stop, rest_stop, rest_step, walks, goes_on};
 
 use crate::along::{block_points, is_cut};
 use crate::met::{MOST_NODES, Met};
@@ -52,6 +52,7 @@ fn stmt_stop(cuts: &[u32], n: u64, s: &Stmt) -> Option<Stop>
         StmtNode::Par(_) => is_cut(cuts, n),
         StmtNode::Skip => return None,
         StmtNode::Put(_, _, _) => return None,
+        StmtNode::Assert(_) => return None,
         StmtNode::If(_, _, _) => return None,
         StmtNode::For(_, _, _, _) => return None,
         StmtNode::Let(_, _, _) => return None,
@@ -103,10 +104,10 @@ fn inside<'a>(first: u64, b: &'a Block) -> Stretch<'a>
 
 // Adds the path of a walk that is stuck in a statement parameter.
 fn add_stuck(alloc: Global, met: &Met, k: u32, all: &mut Items<Path>) -> Result<(), PathRefusal>
-    ensures { Adds (record { literals = met.now.literals ++ record { sign = false; atom = Ends (run k met.now.store) } ∷ []; store = run k met.now.store; stop = Stuck } ∷ []) all.old all.new result }
+    ensures { Adds (record { literals = met.now.literals ++ record { sign = false; atom = Ends (run k met.now.store) } ∷ []; store = met.now.store; stop = Stuck k } ∷ []) all.old all.new result }
 {
-    match met.run(alloc, k, false) {
-        Ok(stuck) => add_path(all, stuck, Stop::Stuck),
+    match met.stuck(alloc, k) {
+        Ok(stuck) => add_path(all, stuck, Stop::Stuck(k)),
         Err(e) => Err(e),
     }
 }
@@ -118,6 +119,38 @@ fn is_too_large(met: &Met, t: &Test, way: bool) -> bool
     let most = outcome_nodes(t, met.of_store);
     let most = if way { most.when_true } else { most.when_false };
     (met.of_literals + met.of_store).saturating_add(most) > MOST_NODES
+}
+
+// Adds the paths that halt, one for each outcome in which the test of an `assert` is false, in order.
+fn add_halted(
+    alloc: Global,
+    met: &Met,
+    t: &Test,
+    all: &mut Items<Path>,
+) -> Result<(), PathRefusal>
+    requires { test_is_open t.now ≡ true }
+    ensures { Adds (halting_paths (outcomes t.now false met.now.store) met.now.literals met.now.store) all.old all.new result }
+{
+    if is_too_large(met, t, false) {
+        return Err(PathRefusal::Limit(LimitKind::PathNodes));
+    }
+    let found = outcomes(alloc, t, false, &met.store)?;
+    add_each(alloc, met, found.as_slice(), all)
+}
+
+fn add_each(
+    alloc: Global,
+    met: &Met,
+    found: &[Items<Literal>],
+    all: &mut Items<Path>,
+) -> Result<(), PathRefusal>
+    ensures { Adds (halting_paths found.now met.now.literals met.now.store) all.old all.new result }
+{
+    for outcome in found {
+        let next = met.with(alloc, outcome.as_slice())?;
+        add_path(all, next, Stop::Halted)?;
+    }
+    Ok(())
 }
 
 // Adds the paths of the walks on from a walk, up to so many steps more, none of which goes on then.
@@ -208,6 +241,7 @@ fn walk_stmt<'a>(
         StmtNode::Put(x, indices, e) => {
             walk_write(alloc, course, met, x, indices.as_slice(), e, behind, all)
         }
+        StmtNode::Assert(t) => walk_assert(alloc, course, &met, t, behind, all),
         StmtNode::If(t, b, c) => {
             let then = in_front(alloc, inside(n, b), behind)?;
             let or_else = in_front(alloc, inside(n + block_points(b), c), behind)?;
@@ -288,10 +322,29 @@ fn walk_run(
 ) -> Result<(), PathRefusal>
     requires behind { AreWalkable (rest_of behind.now) }
     requires ends { goes_on (suc course.steps) course.cuts.now course.exit (stands (met.now.literals ++ record { sign = true; atom = Ends (run k met.now.store) } ∷ []) (run k met.now.store) (rest_of behind.now)) ≡ false }
-    ensures { Adds (walks course.entry.steps course.entry.cuts.now course.entry.exit (stands (met.now.literals ++ record { sign = true; atom = Ends (run k met.now.store) } ∷ []) (run k met.now.store) (rest_of behind.now)) ++ record { literals = met.now.literals ++ record { sign = false; atom = Ends (run k met.now.store) } ∷ []; store = run k met.now.store; stop = Stuck } ∷ []) all.old all.new result }
+    ensures { Adds (walks course.entry.steps course.entry.cuts.now course.entry.exit (stands (met.now.literals ++ record { sign = true; atom = Ends (run k met.now.store) } ∷ []) (run k met.now.store) (rest_of behind.now)) ++ record { literals = met.now.literals ++ record { sign = false; atom = Ends (run k met.now.store) } ∷ []; store = met.now.store; stop = Stuck k } ∷ []) all.old all.new result }
 {
     walk_ended(alloc, course, met, k, behind, all)?;
     add_stuck(alloc, met, k, all)
+}
+
+// Adds the paths of the walks by an `assert`: first those in which it is true, then those that halt.
+#[cycle(walk)]
+fn walk_assert(
+    alloc: Global,
+    course: Course<'_>,
+    met: &Met,
+    t: &Test,
+    behind: &[Stretch<'_>],
+    all: &mut Items<Path>,
+) -> Result<(), PathRefusal>
+    requires is_open { test_is_open t.now ≡ true }
+    requires behind { AreWalkable (rest_of behind.now) }
+    requires ends { list_any (goes_on (suc course.steps) course.cuts.now course.exit) (by_each (outcomes t.now true met.now.store) met.now.literals met.now.store (rest_of behind.now)) ≡ false }
+    ensures { Adds (flat_map (walks course.entry.steps course.entry.cuts.now course.entry.exit) (by_each (outcomes t.now true met.now.store) met.now.literals met.now.store (rest_of behind.now)) ++ halting_paths (outcomes t.now false met.now.store) met.now.literals met.now.store) all.old all.new result }
+{
+    walk_way(alloc, course, met, t, true, behind, all)?;
+    add_halted(alloc, met, t, all)
 }
 
 // Adds the paths of the walks by the outcomes of a test, first those in which it is true.

@@ -38,7 +38,7 @@ lookup (entry ∷ table) lexeme = if bytes_eq entry.0 lexeme then Some entry.1 e
 
 -- all reserved words
 abbrev pub words : List Word
-words = w.Skip ∷ w.If ∷ w.Else ∷ w.While ∷ w.For ∷ w.To ∷ w.Let ∷ w.Not ∷ w.And ∷ w.Or ∷ w.End ∷ w.Left ∷ w.Right ∷ w.Given ∷ w.Method ∷ w.Cuts ∷ w.None ∷ w.Name ∷ w.Expr ∷ w.Test ∷ w.Stmt ∷ []
+words = w.Skip ∷ w.Assert ∷ w.If ∷ w.Else ∷ w.While ∷ w.For ∷ w.To ∷ w.Let ∷ w.Not ∷ w.And ∷ w.Or ∷ w.End ∷ w.Left ∷ w.Right ∷ w.Given ∷ w.Method ∷ w.Cuts ∷ w.None ∷ w.Name ∷ w.Expr ∷ w.Test ∷ w.Stmt ∷ []
 
 -- all signs
 abbrev pub signs : List Sign

@@ -22,6 +22,7 @@ is_gap_byte byte = byte == 32 || byte == 9 || byte == 10
 -- The bytes of a reserved word.
 abbrev pub word_text : Word → List ℕ
 word_text w.Skip = codes "skip"
+word_text w.Assert = codes "assert"
 word_text w.If = codes "if"
 word_text w.Else = codes "else"
 word_text w.While = codes "while"

@@ -44,8 +44,9 @@ impl<T: Drop> From<AllocFailed<T>> for LexRefusal {
     }
 }
 
-const WORDS: [(&[u8], Word); 21] = [
+const WORDS: [(&[u8], Word); 22] = [
     (b"skip", Word::Skip),
+    (b"assert", Word::Assert),
     (b"if", Word::If),
     (b"else", Word::Else),
     (b"while", Word::While),

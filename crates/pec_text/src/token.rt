@@ -29,6 +29,7 @@ pub enum Numeral {
 #[derive(Clone, Copy, Debug, PartialEq, Eq)]
 pub enum Word {
     Skip,
+    Assert,
     If,
     Else,
     While,

@@ -5,7 +5,7 @@ use Rattle.std.specs.List.{list_all}
 use Rattle.std.proofs.lemmas.Slice.Eq.{bytes_eq-Decides}
 use Rattle.toy_imp.specs.declared.rule.Rule.{Rule}
 use Rattle.toy_imp.specs.declared.instance.Instance.{Instance}
-use Rattle.toy_imp.specs.Block.{skip, put, if_then, while_do, for_to, let_in, par_stmt, Block, empty, stmt, append}
+use Rattle.toy_imp.specs.Block.{skip, put, assert_that, if_then, while_do, for_to, let_in, par_stmt, Block, empty, stmt, append}
 use Rattle.toy_imp.specs.Ends.{Same}
 use Rattle.toy_imp.specs.Fill.{fill, fill_stmt, block_at}
 use Rattle.toy_imp.specs.Valid.{Valid}
@@ -34,6 +34,7 @@ side_same i empty h = same_self empty
 side_same i (stmt skip b) h = same_chain _ _ _ (skip_drops empty (fill i b)) (side_same i b h)
 side_same i (stmt (par_stmt k) b) h = parts_replaced _ _ _ _ (same_self (block_at i k)) (side_same i b h)
 side_same i (stmt (put x is e) b) h = cc
+side_same i (stmt (assert_that t) b) h = cc
 side_same i (stmt (if_then t c d) b) h = cc
 side_same i (stmt (while_do t c) b) h = cc
 side_same i (stmt (for_to x lo hi c) b) h = cc

@@ -5,10 +5,10 @@ use Rattle.toy_imp.specs.declared.param.Param.{Param}
 use Rattle.toy_imp.specs.Expr.{Expr}
 use Rattle.toy_imp.specs.ExprView.{exprs_of}
 use Rattle.toy_imp.specs.Test.{Test}
-use Rattle.toy_imp.specs.Block.{put, if_then, while_do, for_to, let_in, Block, empty, stmt}
+use Rattle.toy_imp.specs.Block.{put, assert_that, if_then, while_do, for_to, let_in, Block, empty, stmt}
 use Rattle.toy_imp.specs.ExprGrammar.{ExprTree, PlaceTree, variable, index_1, index_2, index_3, place_name, expr_value, expr_levels, expr_operators, index_operators, place_levels}
 use Rattle.toy_imp.specs.TestGrammar.{TestTree, test_tree_value, test_levels, test_operators}
-use Rattle.toy_imp.specs.BlockGrammar.{StmtTree, skipped, written, chosen, repeated, counted, bound, named_stmt, StmtsTree, no_stmts, stmts, stmt_tree_value, stmts_value, stmt_levels, stmts_levels, stmt_operators, stmts_operators}
+use Rattle.toy_imp.specs.BlockGrammar.{StmtTree, skipped, written, asserted, chosen, repeated, counted, bound, named_stmt, StmtsTree, no_stmts, stmts, stmt_tree_value, stmts_value, stmt_levels, stmts_levels, stmt_operators, stmts_operators}
 use Rattle.toy_imp.specs.Parameters.{name_value}
 use Rattle.pec_text.specs.declared.token.Sign.TheVariants as s
 use Rattle.pec_text.specs.declared.token.Token.{Token}
@@ -79,6 +79,7 @@ put_tokens a e rest =
 goes_ahead : (a : StmtTree) (rest : List Token) → is_end (stmt_tokens a ++ rest) ≡ false
 goes_ahead skipped rest = refl
 goes_ahead (written a e) rest = ap is_end (put_tokens a e rest)
+goes_ahead (asserted q) rest = refl
 goes_ahead (chosen q b c) rest = refl
 goes_ahead (repeated q b) rest = refl
 goes_ahead (counted x lo hi b) rest = refl
@@ -90,6 +91,7 @@ some_token skipped = omega arith
 some_token (written a e) =
     let joined = length-append (place_tokens a) (t.Sign s.Assign ∷ (expr_tokens e ++ (t.Sign s.Semicolon ∷ []))) in
     omega arith
+some_token (asserted q) = omega arith
 some_token (chosen q b c) = omega arith
 some_token (repeated q b) = omega arith
 some_token (counted x lo hi b) = omega arith
@@ -138,6 +140,13 @@ module _ (ps : List Param) (d : ℕ) (inner : List Token → ReadStmt Block)
       ∙ ap (λ r. and_next r (assigned_read ps d inner (place_name a))) (written_reads ps d a (t.Sign s.Assign ∷ behind) (omega arith) (omega arith) refl)
       ∙ right_reads (place_name a) (index_values ps a) e rest (omega arith) (omega arith)
       ∙ ap (λ z. Some (put (name_value ps (place_name a)) z (expr_value ps e), rest)) (index_values_are ps a)
+
+  asserted_reads : (q : TestTree) (rest : List Token) → stmt_levels (asserted q) ≤ d → stmt_operators (asserted q) ≤ most_operators
+      → stmt_read ps d inner (stmt_tokens (asserted q) ++ rest) ≡ Some (stmt_tree_value ps (asserted q), rest)
+  unfolding stmt_read
+  asserted_reads q rest low few =
+      ap (λ z. and_next (test_alone ps d z) (ended assert_that)) (append_assoc (test_tokens q) (t.Sign s.Semicolon ∷ []) rest)
+      ∙ ap (λ r. and_next r (ended assert_that)) (test_alone_reads ps d q (t.Sign s.Semicolon ∷ rest) (omega arith) (omega arith) refl)
 
   else_reads : (q : Test) (b : Block) (c : StmtsTree) (rest : List Token) → stmts_levels c < d → stmts_operators c ≤ most_operators
       → else_read ps d inner q b (t.Word w.Else ∷ (in_braces (stmts_tokens c) ++ rest)) ≡ Some (if_then q b (stmts_value ps c), rest)
@@ -199,6 +208,7 @@ module _ (ps : List Param) (d : ℕ) (inner : List Token → ReadStmt Block)
   unfolding stmt_read
   stmt_reads skipped rest low few = refl
   stmt_reads (written a e) rest low few = put_reads a e rest low few
+  stmt_reads (asserted q) rest low few = asserted_reads q rest low few
   stmt_reads (chosen q b c) rest low few = chosen_reads q b c rest low few
   stmt_reads (repeated q b) rest low few = repeated_reads q b rest low few
   stmt_reads (counted x lo hi b) rest low few = counted_reads x lo hi b rest low few

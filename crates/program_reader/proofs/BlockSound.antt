@@ -5,10 +5,10 @@ use Rattle.toy_imp.specs.declared.param.Param.{Param}
 use Rattle.toy_imp.specs.Expr.{Expr}
 use Rattle.toy_imp.specs.ExprView.{exprs_of}
 use Rattle.toy_imp.specs.Test.{Test}
-use Rattle.toy_imp.specs.Block.{Stmt, put, if_then, while_do, for_to, let_in, Block, empty, stmt}
+use Rattle.toy_imp.specs.Block.{Stmt, put, assert_that, if_then, while_do, for_to, let_in, Block, empty, stmt}
 use Rattle.toy_imp.specs.ExprGrammar.{ExprTree, PlaceTree, variable, index_1, index_2, index_3, place_name, indices_value, expr_value, expr_levels, expr_operators, index_operators, place_levels}
 use Rattle.toy_imp.specs.TestGrammar.{TestTree, test_tree_value, test_levels, test_operators}
-use Rattle.toy_imp.specs.BlockGrammar.{StmtTree, skipped, written, chosen, repeated, counted, bound, named_stmt, StmtsTree, no_stmts, stmts, stmt_tree_value, stmts_value, stmt_levels, stmts_levels, stmt_operators, stmts_operators}
+use Rattle.toy_imp.specs.BlockGrammar.{StmtTree, skipped, written, asserted, chosen, repeated, counted, bound, named_stmt, StmtsTree, no_stmts, stmts, stmt_tree_value, stmts_value, stmt_levels, stmts_levels, stmt_operators, stmts_operators}
 use Rattle.toy_imp.specs.Parameters.{name_value}
 use Rattle.pec_text.specs.declared.token.Sign.TheVariants as s
 use Rattle.pec_text.specs.declared.token.Token.{Token}
@@ -125,7 +125,7 @@ brace_closed_has : (b : Block) (tokens : List Token) (p : Block × List Token) �
 brace_closed_has b (t.Sign s.CloseBrace ∷ rest) p h = let same = same_Some _ _ h in (ap (λ z. t.Sign s.CloseBrace ∷ z.1) same, ap (λ z. z.0) same)
 brace_closed_has b _ p h = absurd (none-some _ h)
 
-ended_has : (made : Expr → Stmt) (e : Expr) (tokens : List Token) (p : Stmt × List Token) → ended made e tokens ≡ Some p → (tokens ≡ t.Sign s.Semicolon ∷ p.1) × (made e ≡ p.0)
+ended_has : {A : Type 0} (made : A → Stmt) (e : A) (tokens : List Token) (p : Stmt × List Token) → ended made e tokens ≡ Some p → (tokens ≡ t.Sign s.Semicolon ∷ p.1) × (made e ≡ p.0)
 ended_has made e (t.Sign s.Semicolon ∷ rest) p h = let same = same_Some _ _ h in (ap (λ z. t.Sign s.Semicolon ∷ z.1) same, ap (λ z. z.0) same)
 ended_has made e _ p h = absurd (none-some _ h)
 
@@ -155,6 +155,15 @@ chosen_has ps d front tokens rest q b c test first last =
       shallow = omega (arith, test.shallow, first.shallow, last.shallow);
       few = omega (arith, test.few, first.few, last.few);
     }
+
+asserted_has : (ps : List Param) (d : ℕ) (front rest : List Token) (q : Test) → HasTestAlone ps d front (q, t.Sign s.Semicolon ∷ rest) → HasStmt ps d (t.Word w.Assert ∷ front) (assert_that q, rest)
+asserted_has ps d front rest q test = record {
+  tree = asserted test.tree;
+  spelled = ap (λ z. t.Word w.Assert ∷ z) (joined (test_tokens test.tree) (t.Sign s.Semicolon ∷ []) rest front (t.Sign s.Semicolon ∷ rest) test.spelled refl);
+  value = ap assert_that test.value;
+  shallow = omega (arith, test.shallow);
+  few = omega (arith, test.few);
+}
 
 repeated_has : (ps : List Param) (d : ℕ) (front tokens : List Token) (q : Test) (b : Block × List Token) → HasTestAlone ps d front (q, tokens)
     → HasBlock ps d tokens b → HasStmt ps d (t.Word w.While ∷ front) (while_do q b.0, b.1)
@@ -261,6 +270,11 @@ module _ (ps : List Param) (d : ℕ) (inner : List Token → ReadStmt Block)
     shallow = omega arith;
     few = omega arith;
   })
+  stmt_has (t.Word w.Assert ∷ rest) p h =
+      let m = next_some (test_alone ps d rest) (ended assert_that) p h in
+      let ends = ended_has assert_that m.0.0 m.0.1 p m.2 in
+      let whole : HasTestAlone ps d rest (m.0.0, t.Sign s.Semicolon ∷ p.1) = subst (λ z. HasTestAlone ps d rest (m.0.0, z)) ends.0 (test_alone_has ps d rest m.0 m.1) in
+      subst (λ z. HasStmt ps d (t.Word w.Assert ∷ rest) (z, p.1)) ends.1 (asserted_has ps d rest p.1 m.0.0 whole)
   stmt_has (t.Word w.If ∷ rest) p h =
       let m = next_some (test_alone ps d rest) (λ q rest. and_next (block_read ps d inner rest) (λ b rest. else_read ps d inner q b rest)) p h in
       let n = next_some (block_read ps d inner m.0.1) (λ b rest. else_read ps d inner m.0.0 b rest) p m.2 in

@@ -5,7 +5,7 @@ use Rattle.std.specs.Prelude.{if◌then◌else◌}
 use Rattle.toy_imp.specs.declared.param.Param.{Param}
 use Rattle.toy_imp.specs.Expr.{Expr}
 use Rattle.toy_imp.specs.Test.{Test}
-use Rattle.toy_imp.specs.Block.{Stmt, if_then, while_do, for_to, let_in, Block, empty, stmt, append}
+use Rattle.toy_imp.specs.Block.{Stmt, assert_that, if_then, while_do, for_to, let_in, Block, empty, stmt, append}
 use Rattle.toy_imp.specs.Parameters.{name_value}
 use Rattle.toy_imp.proofs.Alikes.{append-empty, append-assoc}
 use Rattle.pec_text.specs.declared.token.Sign.TheVariants as s

@@ -8,7 +8,7 @@ use Rattle.toy_imp.specs.Expr.{Exprs, no_exprs, expr}
 use Rattle.toy_imp.specs.Parameters.{kind_of, name_value, cell_by}
 use Rattle.toy_imp.specs.ExprGrammar.{ExprTree, term, plus, minus, TermTree, factor, times, FactorTree, numeral, negative, cell, group, PlaceTree, variable, index_1, index_2, index_3, place_name, expr_value, term_value, factor_value, indices_value, expr_levels, term_levels, factor_levels, place_levels, expr_operators, term_operators, factor_operators, place_operators, index_operators}
 use Rattle.toy_imp.specs.TestGrammar.{TestTree, both, either, BothTree, one, also, OneTree, negated, bracketed, named_test, below, at_most, same, test_tree_value, both_value, one_value, test_levels, both_levels, one_levels, test_operators, both_operators, one_operators}
-use Rattle.toy_imp.specs.BlockGrammar.{StmtTree, skipped, written, chosen, repeated, counted, bound, named_stmt, StmtsTree, no_stmts, stmts, stmt_tree_value, stmts_value, stmt_levels, stmts_levels, stmt_operators, stmts_operators, nesting_by, stmts_nesting}
+use Rattle.toy_imp.specs.BlockGrammar.{StmtTree, skipped, written, asserted, chosen, repeated, counted, bound, named_stmt, StmtsTree, no_stmts, stmts, stmt_tree_value, stmts_value, stmt_levels, stmts_levels, stmt_operators, stmts_operators, nesting_by, stmts_nesting}
 use Rattle.toy_imp.specs.ExprCanonical.{written_name, as_term, as_factor, canonical_expr, canonical_place}
 use Rattle.toy_imp.specs.TestCanonical.{as_both, as_one, canonical_test}
 use Rattle.toy_imp.specs.BlockCanonical.{canonical_stmt, canonical_block}
@@ -167,6 +167,7 @@ mutual
   pub stmt-low : (ps : List Param) (a : StmtTree) → stmt_levels (canonical_stmt ps (stmt_tree_value ps a)) ≤ stmt_levels a
   stmt-low ps skipped = omega arith
   stmt-low ps (written a e) = omega (arith, place-low ps a (written_name ps (name_value ps (place_name a))), expr-low ps e)
+  stmt-low ps (asserted t) = test-low ps t
   stmt-low ps (chosen t b c) = omega (arith, test-low ps t, stmts-low ps b, stmts-low ps c)
   stmt-low ps (repeated t b) = omega (arith, test-low ps t, stmts-low ps b)
   stmt-low ps (counted x lo hi b) = omega (arith, expr-low ps lo, expr-low ps hi, stmts-low ps b)
@@ -181,6 +182,7 @@ mutual
   pub stmt-few : (ps : List Param) (a : StmtTree) → stmt_operators (canonical_stmt ps (stmt_tree_value ps a)) ≤ stmt_operators a
   stmt-few ps skipped = omega arith
   stmt-few ps (written a e) = omega (arith, index-few ps a (written_name ps (name_value ps (place_name a))), expr-few ps e)
+  stmt-few ps (asserted t) = test-few ps t
   stmt-few ps (chosen t b c) = omega (arith, test-few ps t, stmts-few ps b, stmts-few ps c)
   stmt-few ps (repeated t b) = omega (arith, test-few ps t, stmts-few ps b)
   stmt-few ps (counted x lo hi b) = omega (arith, expr-few ps lo, expr-few ps hi, stmts-few ps b)

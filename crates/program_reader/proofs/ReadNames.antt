@@ -8,7 +8,7 @@ use Rattle.toy_imp.specs.Expr.{Exprs, no_exprs, expr}
 use Rattle.toy_imp.specs.Parameters.{number_of, kind_of, name_value, cell_by}
 use Rattle.toy_imp.specs.ExprGrammar.{ExprTree, term, plus, minus, TermTree, factor, times, FactorTree, numeral, negative, cell, group, PlaceTree, variable, index_1, index_2, index_3, place_name, expr_value, term_value, factor_value, indices_value}
 use Rattle.toy_imp.specs.TestGrammar.{TestTree, both, either, BothTree, one, also, OneTree, negated, bracketed, named_test, below, at_most, same, test_tree_value, both_value, one_value}
-use Rattle.toy_imp.specs.BlockGrammar.{StmtTree, skipped, written, chosen, repeated, counted, bound, named_stmt, StmtsTree, no_stmts, stmts, stmt_tree_value, stmts_value}
+use Rattle.toy_imp.specs.BlockGrammar.{StmtTree, skipped, written, asserted, chosen, repeated, counted, bound, named_stmt, StmtsTree, no_stmts, stmts, stmt_tree_value, stmts_value}
 use Rattle.pec_text.specs.Spelling.{Spells, IsName}
 use Rattle.pec_text.specs.declared.token.Sign.TheVariants as s
 use Rattle.pec_text.specs.declared.token.Token.{Token}
@@ -143,6 +143,7 @@ mutual
       let place : NamesAre P (place_tokens a) = front P (place_tokens a) (t.Sign s.Assign ∷ (expr_tokens e ++ (t.Sign s.Semicolon ∷ []))) h in
       let behind : NamesAre P (expr_tokens e ++ (t.Sign s.Semicolon ∷ [])) = back P (place_tokens a) (t.Sign s.Assign ∷ (expr_tokens e ++ (t.Sign s.Semicolon ∷ []))) h in
       (name_names P ps (place_name a) (place_named P a place), indices_names P ps a place, expr_names P ps e (front P (expr_tokens e) (t.Sign s.Semicolon ∷ []) behind))
+  stmt_names P ps (asserted q) h = test_names P ps q (front P (test_tokens q) (t.Sign s.Semicolon ∷ []) h)
   stmt_names P ps (chosen q b c) h =
       let behind : NamesAre P (in_braces (stmts_tokens b) ++ (t.Word w.Else ∷ in_braces (stmts_tokens c))) = back P (test_tokens q) (in_braces (stmts_tokens b) ++ (t.Word w.Else ∷ in_braces (stmts_tokens c))) h in
       let last : NamesAre P (in_braces (stmts_tokens c)) = back P (in_braces (stmts_tokens b)) (t.Word w.Else ∷ in_braces (stmts_tokens c)) behind in (

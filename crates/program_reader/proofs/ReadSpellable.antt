@@ -5,7 +5,7 @@ use Rattle.toy_imp.specs.declared.name.Name.{Name}
 use Rattle.toy_imp.specs.declared.name.Name.TheVariants.{Own, Par}
 use Rattle.toy_imp.specs.Expr.{Expr, num, at, add, sub, mul, par_expr, Exprs, no_exprs, expr}
 use Rattle.toy_imp.specs.Test.{Test, less, less_eq, equal, not_of, and_of, or_of, par_test}
-use Rattle.toy_imp.specs.Block.{Stmt, skip, put, if_then, while_do, for_to, let_in, par_stmt, Block, empty, stmt}
+use Rattle.toy_imp.specs.Block.{Stmt, skip, put, assert_that, if_then, while_do, for_to, let_in, par_stmt, Block, empty, stmt}
 use Rattle.toy_imp.specs.BlockCanonical.{canonical_block}
 use Rattle.toy_imp.specs.BlockGrammar.{stmts_value, stmts_nesting}
 use Rattle.toy_imp.specs.Spellable.{is_spellable_block, is_missing}
@@ -59,6 +59,7 @@ mutual
   stmt-closed test (put x es e) none h =
       let later : (are_closed es && is_closed e) ≡ true = (and_parts _ _ h).1 in
       neither _ _ (name-own test x none ((and_parts _ _ h).0)) (neither _ _ (exprs-closed test es none ((and_parts _ _ later).0)) (expr-closed test e none ((and_parts _ _ later).1)))
+  stmt-closed test (assert_that t) none h = test-closed test t none h
   stmt-closed test (if_then t b c) none h =
       let later : (is_program b && is_program c) ≡ true = (and_parts _ _ h).1 in
       neither _ _ (test-closed test t none ((and_parts _ _ h).0)) (neither _ _ (block-closed test b none ((and_parts _ _ later).0)) (block-closed test c none ((and_parts _ _ later).1)))

@@ -8,12 +8,12 @@ use Rattle.toy_imp.specs.declared.param.Param.{Param}
 use Rattle.toy_imp.specs.declared.rule.Rule.{Rule}
 use Rattle.toy_imp.specs.Expr.{Expr, num, at, add, sub, mul, par_expr, Exprs, no_exprs, expr}
 use Rattle.toy_imp.specs.Test.{Test, less, less_eq, equal, not_of, and_of, or_of, par_test}
-use Rattle.toy_imp.specs.Block.{Stmt, skip, put, if_then, while_do, for_to, let_in, par_stmt, Block, empty, stmt}
+use Rattle.toy_imp.specs.Block.{Stmt, skip, put, assert_that, if_then, while_do, for_to, let_in, par_stmt, Block, empty, stmt}
 use Rattle.toy_imp.specs.BlockCanonical.{canonical_block}
 use Rattle.toy_imp.specs.BlockGrammar.{StmtsTree, stmts_value, stmts_levels, stmts_operators}
 use Rattle.toy_imp.specs.Faults.{is_undeclared, condition_numbers, uses_undeclared, first_fault}
 use Rattle.toy_imp.specs.Parameters.{number_of}
-use Rattle.toy_imp.specs.RuleGrammar.{Declaration, ConditionTree, keeps, ignores, commutes, positive, constant, distinct, swaps_over_1, swaps_over_2, no_cuts, cuts_none, cuts_at, CutsTree, RuleTree, declared_by, params_value, condition_value, cut_value, cuts_value, rule_value, rule_nesting}
+use Rattle.toy_imp.specs.RuleGrammar.{Declaration, ConditionTree, keeps, ignores, commutes, positive, constant, distinct, quiet, swaps_over_1, swaps_over_2, no_cuts, cuts_none, cuts_at, CutsTree, RuleTree, declared_by, params_value, condition_value, cut_value, cuts_value, rule_value, rule_nesting}
 use Rattle.toy_imp.specs.Spellable.{is_first, is_missing, is_spellable_block}
 use Rattle.toy_imp.specs.Uses.{Use, own_name, parameter, expr_any, exprs_any, test_any, stmt_any, block_any, name_use}
 use Rattle.toy_imp.proofs.SpellableValues.{block-spellable, first-spellable}
@@ -73,6 +73,7 @@ module _ (p q : Use → Bool) (h : (u : Use) → q u ≡ false → p u ≡ false
     stmt_less (put x es e) g =
         let later : (exprs_any q es || expr_any q e) ≡ false = (or_parts _ _ g).1 in
         neither _ _ (h (name_use x) ((or_parts _ _ g).0)) (neither _ _ (exprs_less es ((or_parts _ _ later).0)) (expr_less e ((or_parts _ _ later).1)))
+    stmt_less (assert_that c) g = test_less c g
     stmt_less (if_then c a b) g =
         let later : (block_any q a || block_any q b) ≡ false = (or_parts _ _ g).1 in
         neither _ _ (test_less c ((or_parts _ _ g).0)) (neither _ _ (block_less a ((or_parts _ _ later).0)) (block_less b ((or_parts _ _ later).1)))
@@ -144,6 +145,7 @@ condition_spellable ps (commutes x y) h = and_from _ _ (two_numbers ps x y h) re
 condition_spellable ps (positive x) h = and_from _ _ (one_number ps x h) refl
 condition_spellable ps (constant x) h = and_from _ _ (one_number ps x h) refl
 condition_spellable ps (distinct x y) h = and_from _ _ (two_numbers ps x y h) refl
+condition_spellable ps (quiet x) h = and_from _ _ (one_number ps x h) refl
 condition_spellable ps (swaps_over_1 x y k region) h = and_from _ _ (three_numbers ps x y k h) refl
 condition_spellable ps (swaps_over_2 x y k l region) h = and_from _ _ (four_numbers ps x y k l h) refl
 

@@ -5,7 +5,7 @@ use Rattle.toy_imp.specs.declared.param.Param.{Param}
 use Rattle.toy_imp.specs.Expr.{Expr}
 use Rattle.toy_imp.specs.ExprView.{exprs_of}
 use Rattle.toy_imp.specs.Test.{Test}
-use Rattle.toy_imp.specs.Block.{Stmt, skip, put, if_then, while_do, for_to, let_in, Block, empty, stmt}
+use Rattle.toy_imp.specs.Block.{Stmt, skip, put, assert_that, if_then, while_do, for_to, let_in, Block, empty, stmt}
 use Rattle.toy_imp.specs.Parameters.{name_value, stmt_value}
 use Rattle.pec_text.specs.declared.token.Sign.TheVariants as s
 use Rattle.pec_text.specs.declared.token.Token.{Token}
@@ -36,7 +36,7 @@ brace_closed b (t.Sign s.CloseBrace ∷ rest) = Some (b, rest)
 brace_closed b _ = None
 
 -- a written place's sign, its expression and the semicolon
-abbrev pub ended : (Expr → Stmt) → Expr → List Token → ReadStmt Stmt
+abbrev pub ended : {A : Type 0} → (A → Stmt) → A → List Token → ReadStmt Stmt
 ended made e (t.Sign s.Semicolon ∷ rest) = Some (made e, rest)
 ended made e _ = None
 
@@ -69,6 +69,7 @@ module _ (ps : List Param) (d : ℕ) (inner : List Token → ReadStmt Block) whe
 
   unfoldable pub stmt_read : List Token → ReadStmt Stmt
   stmt_read (t.Word w.Skip ∷ t.Sign s.Semicolon ∷ rest) = Some (skip, rest)
+  stmt_read (t.Word w.Assert ∷ rest) = and_next (test_alone ps d rest) (ended assert_that)
   stmt_read (t.Word w.If ∷ rest) = and_next (test_alone ps d rest) (λ q rest. and_next (block_read rest) (λ b rest. else_read q b rest))
   stmt_read (t.Word w.While ∷ rest) = and_next (test_alone ps d rest) (λ q rest. and_next (block_read rest) (λ b rest. Some (while_do q b, rest)))
   stmt_read (t.Word w.For ∷ t.Name x ∷ t.Sign s.Equals ∷ rest) = and_next (expr_alone ps d rest) (to_read x)

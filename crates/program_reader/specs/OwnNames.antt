@@ -5,7 +5,7 @@ use Rattle.toy_imp.specs.declared.name.Name.{Name}
 use Rattle.toy_imp.specs.declared.name.Name.TheVariants.{Own, Par}
 use Rattle.toy_imp.specs.Expr.{Expr, num, at, add, sub, mul, par_expr, Exprs, no_exprs, expr}
 use Rattle.toy_imp.specs.Test.{Test, less, less_eq, equal, not_of, and_of, or_of, par_test}
-use Rattle.toy_imp.specs.Block.{Stmt, skip, put, if_then, while_do, for_to, let_in, par_stmt, Block, empty, stmt}
+use Rattle.toy_imp.specs.Block.{Stmt, skip, put, assert_that, if_then, while_do, for_to, let_in, par_stmt, Block, empty, stmt}
 
 abbrev pub NameIs : (List ℕ → Type 0) → Name → Type 0
 NameIs P (Own x) = P x
@@ -37,6 +37,7 @@ abbrev mutual
   pub StmtNamesAre : (List ℕ → Type 0) → Stmt → Type 0
   StmtNamesAre P skip = Unit {0}
   StmtNamesAre P (put x es e) = NameIs P x × ExprsNamesAre P es × ExprNamesAre P e
+  StmtNamesAre P (assert_that t) = TestNamesAre P t
   StmtNamesAre P (if_then t b c) = TestNamesAre P t × BlockNamesAre P b × BlockNamesAre P c
   StmtNamesAre P (while_do t b) = TestNamesAre P t × BlockNamesAre P b
   StmtNamesAre P (for_to x lo hi b) = NameIs P x × ExprNamesAre P lo × ExprNamesAre P hi × BlockNamesAre P b

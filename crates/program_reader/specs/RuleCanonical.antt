@@ -14,7 +14,7 @@ use Rattle.toy_imp.specs.declared.rule.Rule.{Rule}
 use Rattle.toy_imp.specs.BlockCanonical.{canonical_block}
 use Rattle.toy_imp.specs.ExprCanonical.{declared_name}
 use Rattle.toy_imp.specs.Faults.{kind_is}
-use Rattle.toy_imp.specs.RuleGrammar.{Declaration, ConditionTree, keeps, ignores, commutes, positive, constant, distinct, swaps_over_1, swaps_over_2, MethodTree, no_method, permuted, CutsTree, no_cuts, cuts_none, cuts_at, RuleTree}
+use Rattle.toy_imp.specs.RuleGrammar.{Declaration, ConditionTree, keeps, ignores, commutes, positive, constant, distinct, quiet, swaps_over_1, swaps_over_2, MethodTree, no_method, permuted, CutsTree, no_cuts, cuts_none, cuts_at, RuleTree}
 
 -- a parameter in front of declarations: in the first of them where that is of its kind, else in one of its own
 abbrev pub declared_before : Param → List Declaration → List Declaration
@@ -40,6 +40,7 @@ canonical_condition ps (condition.Commutes s t) = commutes (declared_name ps s) 
 canonical_condition ps (condition.Positive e) = positive (declared_name ps e)
 canonical_condition ps (condition.Constant e) = constant (declared_name ps e)
 canonical_condition ps (condition.Distinct x y) = distinct (declared_name ps x) (declared_name ps y)
+canonical_condition ps (condition.Quiet s) = quiet (declared_name ps s)
 canonical_condition ps (condition.Swaps s t names region) = swaps_over (declared_name ps s) (declared_name ps t) (map (declared_name ps) names) region
 
 abbrev pub canonical_method : Method → MethodTree

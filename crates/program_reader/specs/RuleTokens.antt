@@ -4,7 +4,7 @@ use Rattle.toy_imp.specs.declared.condition.Region.{Region}
 use Rattle.toy_imp.specs.declared.condition.Region.TheVariants as region
 use Rattle.toy_imp.specs.declared.param.Kind.{Kind}
 use Rattle.toy_imp.specs.declared.param.Kind.TheVariants as kind
-use Rattle.toy_imp.specs.RuleGrammar.{Declaration, ConditionTree, keeps, ignores, commutes, positive, constant, distinct, swaps_over_1, swaps_over_2, MethodTree, no_method, simulated, permuted, CutsTree, no_cuts, cuts_none, cuts_at, RuleTree}
+use Rattle.toy_imp.specs.RuleGrammar.{Declaration, ConditionTree, keeps, ignores, commutes, positive, constant, distinct, quiet, swaps_over_1, swaps_over_2, MethodTree, no_method, simulated, permuted, CutsTree, no_cuts, cuts_none, cuts_at, RuleTree}
 use Rattle.pec_text.specs.Spelling.{numeral_of}
 use Rattle.pec_text.specs.declared.token.Sign.TheVariants as s
 use Rattle.pec_text.specs.declared.token.Token.{Token}
@@ -34,6 +34,7 @@ condition_tokens (commutes x y) = t.Name (codes "commutes") ∷ t.Name x ∷ t.N
 condition_tokens (positive x) = t.Name (codes "positive") ∷ t.Name x ∷ []
 condition_tokens (constant x) = t.Name (codes "constant") ∷ t.Name x ∷ []
 condition_tokens (distinct x y) = t.Name (codes "distinct") ∷ t.Name x ∷ t.Name y ∷ []
+condition_tokens (quiet x) = t.Name (codes "quiet") ∷ t.Name x ∷ []
 condition_tokens (swaps_over_1 x y k region) = t.Name (codes "swaps") ∷ t.Name x ∷ t.Name y ∷ t.Name (codes "over") ∷ t.Name k ∷ t.Name (region_word region) ∷ []
 condition_tokens (swaps_over_2 x y k l region) = t.Name (codes "swaps") ∷ t.Name x ∷ t.Name y ∷ t.Name (codes "over") ∷ t.Name k ∷ t.Sign s.Comma ∷ t.Name l ∷ t.Name (region_word region) ∷ []
 

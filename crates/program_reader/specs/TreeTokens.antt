@@ -3,7 +3,7 @@
 use Rattle.std.specs.Prelude.{suc, List, [], ◌∷◌, ◌++◌}
 use Rattle.toy_imp.specs.ExprGrammar.{ExprTree, term, plus, minus, TermTree, factor, times, FactorTree, numeral, negative, cell, group, PlaceTree, variable, index_1, index_2, index_3}
 use Rattle.toy_imp.specs.TestGrammar.{TestTree, both, either, BothTree, one, also, OneTree, negated, bracketed, named_test, below, at_most, same}
-use Rattle.toy_imp.specs.BlockGrammar.{StmtTree, skipped, written, chosen, repeated, counted, bound, named_stmt, StmtsTree, no_stmts, stmts}
+use Rattle.toy_imp.specs.BlockGrammar.{StmtTree, skipped, written, asserted, chosen, repeated, counted, bound, named_stmt, StmtsTree, no_stmts, stmts}
 use Rattle.pec_text.specs.Spelling.{numeral_of}
 use Rattle.pec_text.specs.declared.token.Sign.TheVariants as s
 use Rattle.pec_text.specs.declared.token.Token.{Token}
@@ -57,6 +57,7 @@ abbrev mutual
   pub stmt_tokens : StmtTree → List Token
   stmt_tokens skipped = t.Word w.Skip ∷ t.Sign s.Semicolon ∷ []
   stmt_tokens (written a e) = place_tokens a ++ (t.Sign s.Assign ∷ (expr_tokens e ++ (t.Sign s.Semicolon ∷ [])))
+  stmt_tokens (asserted q) = t.Word w.Assert ∷ (test_tokens q ++ (t.Sign s.Semicolon ∷ []))
   stmt_tokens (chosen q b c) = t.Word w.If ∷ (test_tokens q ++ (in_braces (stmts_tokens b) ++ (t.Word w.Else ∷ in_braces (stmts_tokens c))))
   stmt_tokens (repeated q b) = t.Word w.While ∷ (test_tokens q ++ in_braces (stmts_tokens b))
   stmt_tokens (counted x lo hi b) = t.Word w.For ∷ t.Name x ∷ t.Sign s.Equals ∷ (expr_tokens lo ++ (t.Word w.To ∷ (expr_tokens hi ++ in_braces (stmts_tokens b))))

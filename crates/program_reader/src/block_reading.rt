@@ -69,6 +69,7 @@ fn statement<'a>(
     ensures { Gives (λ p. (p.0, p.1.now)) result (stmt_read names.now levels (λ rest. stmts_read names.now levels rest) tokens.now) }
 {
     match tokens.split_first() {
+        Some((Token::Word(Word::Assert), rest)) => asserted(alloc, names, levels, rest),
         Some((Token::Word(Word::If), rest)) => conditional(alloc, names, levels, rest),
         Some((Token::Word(Word::While), rest)) => repeated(alloc, names, levels, rest),
         Some((Token::Word(Word::For), rest)) => counted(alloc, names, levels, rest),
@@ -158,6 +159,23 @@ fn else_after<'a>(
             Ok((Stmt::if_then(condition, then, otherwise), rest))
         }
         _ => Err(Unread::NotGrammar),
+    }
+}
+
+/// An `assert` behind its word.
+#[tactic(auto, unfolding(crate::specs::BlockReading::stmt_read))]
+fn asserted<'a>(
+    alloc: Global,
+    names: &Names,
+    levels: u32,
+    tokens: &'a [Token],
+) -> Result<(Stmt, &'a [Token]), Unread>
+    ensures { Gives (λ p. (p.0, p.1.now)) result (stmt_read names.now levels (λ rest. stmts_read names.now levels rest) (t.Word w.Assert ∷ tokens.now)) }
+{
+    let (condition, rest) = test_alone(alloc, names, levels, tokens)?;
+    match behind_sign(Sign::Semicolon, rest) {
+        Some(rest) => Ok((Stmt::assert_that(condition), rest)),
+        None => Err(Unread::NotGrammar),
     }
 }
 

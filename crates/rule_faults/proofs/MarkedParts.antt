@@ -9,7 +9,7 @@ use Rattle.toy_imp.specs.declared.name.Name.{Name}
 use Rattle.toy_imp.specs.declared.name.Name.TheVariants.{Own, Par}
 use Rattle.toy_imp.specs.Expr.{Expr, num, at, add, sub, mul, par_expr, Exprs, no_exprs, expr}
 use Rattle.toy_imp.specs.Test.{Test, less, less_eq, equal, not_of, and_of, or_of, par_test}
-use Rattle.toy_imp.specs.Block.{Stmt, skip, put, if_then, while_do, for_to, let_in, par_stmt, Block, empty, stmt}
+use Rattle.toy_imp.specs.Block.{Stmt, skip, put, assert_that, if_then, while_do, for_to, let_in, par_stmt, Block, empty, stmt}
 use Rattle.toy_imp.specs.Faults.{is_number, occurs}
 use Rattle.toy_imp.specs.BlockView.{block_of}
 use Rattle.toy_imp.specs.ExprView.{exprs_of}
@@ -167,6 +167,10 @@ unfolding stmt_marked expr_marked exprs_marked name_marked marked
 put_marked x is e ms =
     marked_twice 0 (λ k. is_number k (name_use x)) (λ k. exprs_any (is_number k) is || expr_any (is_number k) e) ms
     ∙ marked_twice 0 (λ k. exprs_any (is_number k) is) (λ k. expr_any (is_number k) e) _
+
+pub assert_marked : (t : Test) (ms : List Bool) → stmt_marked (assert_that t) ms ≡ test_marked t ms
+unfolding stmt_marked test_marked
+assert_marked t ms = refl
 
 pub if_marked : (t : Test) (b c : Block) (ms : List Bool) → stmt_marked (if_then t b c) ms ≡ block_marked c (block_marked b (test_marked t ms))
 unfolding stmt_marked block_marked test_marked marked

@@ -100,7 +100,7 @@ fn mark_test(t: &Test, marks: &mut [bool])
 
 /// Marks the numbers in a statement.
 #[cycle(mark_block)]
-#[tactic(auto, using(crate::proofs::MarkedParts::skip_marked, crate::proofs::MarkedParts::put_marked, crate::proofs::MarkedParts::if_marked, crate::proofs::MarkedParts::while_marked, crate::proofs::MarkedParts::for_marked, crate::proofs::MarkedParts::let_marked, crate::proofs::MarkedParts::par_stmt_marked))]
+#[tactic(auto, using(crate::proofs::MarkedParts::skip_marked, crate::proofs::MarkedParts::put_marked, crate::proofs::MarkedParts::assert_marked, crate::proofs::MarkedParts::if_marked, crate::proofs::MarkedParts::while_marked, crate::proofs::MarkedParts::for_marked, crate::proofs::MarkedParts::let_marked, crate::proofs::MarkedParts::par_stmt_marked))]
 fn mark_stmt(s: &Stmt, marks: &mut [bool])
     ensures { marks.new ≡ stmt_marked s.now marks.old }
 {
@@ -111,6 +111,7 @@ fn mark_stmt(s: &Stmt, marks: &mut [bool])
             mark_exprs(indices.as_slice(), marks);
             mark_expr(e, marks);
         }
+        StmtNode::Assert(t) => mark_test(t, marks),
         StmtNode::If(t, b, c) => {
             mark_test(t, marks);
             mark_block(b, marks);

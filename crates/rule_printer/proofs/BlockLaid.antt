@@ -7,7 +7,7 @@ use Rattle.std.proofs.lemmas.List.{append_assoc}
 use Rattle.toy_imp.specs.declared.form.ExprForm.TheVariants as expr_form
 use Rattle.toy_imp.specs.declared.form.TestForm.TheVariants as test_form
 use Rattle.toy_imp.specs.declared.param.Param.{Param}
-use Rattle.toy_imp.specs.Block.{Stmt, skip, put, if_then, while_do, for_to, let_in, par_stmt, Block, empty, stmt}
+use Rattle.toy_imp.specs.Block.{Stmt, skip, put, assert_that, if_then, while_do, for_to, let_in, par_stmt, Block, empty, stmt}
 use Rattle.toy_imp.specs.BlockGrammar.{StmtsTree, no_stmts, stmts}
 use Rattle.toy_imp.specs.ExprCanonical.{declared_name, written_name}
 use Rattle.toy_imp.specs.BlockCanonical.{canonical_stmt, canonical_block}
@@ -124,6 +124,8 @@ module _ (ps : List Param) (declared : AllByRecursion (λ p. IsName p.name) ps) 
         let later : (are_spellable_indices ps es && is_spellable ps e) ≡ true = (and_parts _ _ h).1 in
         then_end (place_laid ps declared (written_name ps x) es (written_is_name ps declared x ((and_parts _ _ h).0) names.0) ((and_parts _ _ later).0) names.1)
         (then_end (sign_between s.Assign refl (λ rest. refl)) (then_end (expr_laid ps declared expr_form.Expr e ((and_parts _ _ later).1) names.2) ended (λ rest. refl)) (λ rest. tt)) (λ rest. refl)
+    stmt_laid d (assert_that q) h names =
+        then_end (word_before w.Assert refl) (then_end (test_laid ps declared test_form.Test q h names) ended (λ rest. refl)) (λ rest. tt)
     stmt_laid d (if_then q b c) h names =
         let later : (is_spellable_block ps b && is_spellable_block ps c) ≡ true = (and_parts _ _ h).1 in
         then_end (word_before w.If refl)

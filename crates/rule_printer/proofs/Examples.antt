@@ -8,7 +8,7 @@ use Rattle.toy_imp.specs.declared.param.Kind.TheVariants as kind
 use Rattle.toy_imp.specs.declared.param.Param.{Param}
 use Rattle.toy_imp.specs.Expr.{Expr, num, at, add, sub, mul, par_expr, no_exprs, expr}
 use Rattle.toy_imp.specs.Test.{Test, less, less_eq, equal, not_of, and_of, or_of}
-use Rattle.toy_imp.specs.Block.{Block, empty, stmt, skip, put, if_then, while_do, for_to, let_in}
+use Rattle.toy_imp.specs.Block.{Block, empty, stmt, skip, put, assert_that, if_then, while_do, for_to, let_in}
 use Rattle.toy_imp.specs.ExprCanonical.{canonical_expr}
 use Rattle.toy_imp.specs.TestCanonical.{canonical_test}
 use Rattle.toy_imp.specs.BlockCanonical.{canonical_block}

@@ -66,6 +66,10 @@ constant_word : IsName (codes "constant")
 unfolding reserved_of
 constant_word = free_word (codes "constant") refl refl
 
+quiet_word : IsName (codes "quiet")
+unfolding reserved_of
+quiet_word = free_word (codes "quiet") refl refl
+
 distinct_word : IsName (codes "distinct")
 unfolding reserved_of
 distinct_word = free_word (codes "distinct") refl refl
@@ -240,6 +244,7 @@ module _ (ps : List Param) (all : AllByRecursion (λ p. IsName p.name) ps) where
   condition_laid (condition.Positive x) h = one_named (codes "positive") positive_word x ((and_parts _ _ h).0)
   condition_laid (condition.Constant x) h = one_named (codes "constant") constant_word x ((and_parts _ _ h).0)
   condition_laid (condition.Distinct x y) h = pair_named (codes "distinct") distinct_word x y ((and_parts _ _ h).0)
+  condition_laid (condition.Quiet x) h = one_named (codes "quiet") quiet_word x ((and_parts _ _ h).0)
   condition_laid (condition.Swaps x y [] r) h = let none : false ≡ true = (and_parts (list_all (is_first ps) (x ∷ y ∷ [])) false h).1 in cc
   condition_laid (condition.Swaps x y (k ∷ []) r) h = swaps_1 x y k r ((and_parts (list_all (is_first ps) (x ∷ y ∷ k ∷ [])) true h).0)
   condition_laid (condition.Swaps x y (k ∷ l ∷ []) r) h = swaps_2 x y k l r ((and_parts (list_all (is_first ps) (x ∷ y ∷ k ∷ l ∷ [])) true h).0)

@@ -69,6 +69,7 @@ condition_back ps (condition.Commutes x y) h = let n : list_all (is_first ps) (x
 condition_back ps (condition.Positive x) h = let n : list_all (is_first ps) (x ∷ []) ≡ true = (and_parts _ _ h).0 in λ i. condition.Positive (first_back ps x [] n i)
 condition_back ps (condition.Constant x) h = let n : list_all (is_first ps) (x ∷ []) ≡ true = (and_parts _ _ h).0 in λ i. condition.Constant (first_back ps x [] n i)
 condition_back ps (condition.Distinct x y) h = let n : list_all (is_first ps) (x ∷ y ∷ []) ≡ true = (and_parts _ _ h).0 in λ i. condition.Distinct (first_back ps x (y ∷ []) n i) (second_back ps x y [] n i)
+condition_back ps (condition.Quiet x) h = let n : list_all (is_first ps) (x ∷ []) ≡ true = (and_parts _ _ h).0 in λ i. condition.Quiet (first_back ps x [] n i)
 condition_back ps (condition.Swaps x y [] r) h = let none : false ≡ true = (and_parts (list_all (is_first ps) (x ∷ y ∷ [])) false h).1 in cc
 condition_back ps (condition.Swaps x y (k ∷ []) r) h =
     let n : list_all (is_first ps) (x ∷ y ∷ k ∷ []) ≡ true = (and_parts (list_all (is_first ps) (x ∷ y ∷ k ∷ [])) true h).0 in

@@ -5,7 +5,7 @@
 use Rattle.std.specs.Prelude.{ℕ, zero, suc, List, [], ◌∷◌, ◌++◌, codes, decimal}
 use Rattle.toy_imp.specs.ExprGrammar.{ExprTree, term, plus, minus, TermTree, factor, times, FactorTree, numeral, negative, cell, group, PlaceTree, variable, index_1, index_2, index_3}
 use Rattle.toy_imp.specs.TestGrammar.{TestTree, both, either, BothTree, one, also, OneTree, negated, bracketed, named_test, below, at_most, same}
-use Rattle.toy_imp.specs.BlockGrammar.{StmtTree, skipped, written, chosen, repeated, counted, bound, named_stmt, StmtsTree, no_stmts, stmts}
+use Rattle.toy_imp.specs.BlockGrammar.{StmtTree, skipped, written, asserted, chosen, repeated, counted, bound, named_stmt, StmtsTree, no_stmts, stmts}
 
 abbrev mutual
   pub expr_bytes : ExprTree → List ℕ
@@ -59,6 +59,7 @@ abbrev mutual
   pub stmt_bytes : ℕ → StmtTree → List ℕ
   stmt_bytes d skipped = codes "skip;"
   stmt_bytes d (written a e) = place_bytes a ++ (codes " := " ++ (expr_bytes e ++ codes ";"))
+  stmt_bytes d (asserted t) = codes "assert " ++ (test_bytes t ++ codes ";")
   stmt_bytes d (chosen t b c) = codes "if " ++ (test_bytes t ++ (codes " " ++ (in_block d (stmts_bytes (suc d) b) ++ (codes " else " ++ in_block d (stmts_bytes (suc d) c)))))
   stmt_bytes d (repeated t b) = codes "while " ++ (test_bytes t ++ (codes " " ++ in_block d (stmts_bytes (suc d) b)))
   stmt_bytes d (counted x lo hi b) = codes "for " ++ (x ++ (codes " = " ++ (expr_bytes lo ++ (codes " to " ++ (expr_bytes hi ++ (codes " " ++ in_block d (stmts_bytes (suc d) b)))))))

@@ -2,7 +2,7 @@
 -- condition, the method and the cuts, and the two sides in braces.
 use Rattle.std.specs.Prelude.{ℕ, List, [], ◌++◌, codes, decimal, flat_map}
 use Rattle.toy_imp.specs.BlockGrammar.{StmtsTree}
-use Rattle.toy_imp.specs.RuleGrammar.{Declaration, ConditionTree, keeps, ignores, commutes, positive, constant, distinct, swaps_over_1, swaps_over_2, MethodTree, no_method, simulated, permuted, CutsTree, no_cuts, cuts_none, cuts_at, RuleTree}
+use Rattle.toy_imp.specs.RuleGrammar.{Declaration, ConditionTree, keeps, ignores, commutes, positive, constant, distinct, quiet, swaps_over_1, swaps_over_2, MethodTree, no_method, simulated, permuted, CutsTree, no_cuts, cuts_none, cuts_at, RuleTree}
 use Rattle.pec_text.specs.Spelling.{word_text}
 use Rattle.program_reader.specs.RuleTokens.{kind_word, region_word}
 use Rattle.rule_printer.specs.CanonicalText.{in_block, stmts_bytes}
@@ -21,6 +21,7 @@ condition_bytes (commutes x y) = codes "commutes " ++ (x ++ (codes " " ++ y))
 condition_bytes (positive x) = codes "positive " ++ x
 condition_bytes (constant x) = codes "constant " ++ x
 condition_bytes (distinct x y) = codes "distinct " ++ (x ++ (codes " " ++ y))
+condition_bytes (quiet x) = codes "quiet " ++ x
 condition_bytes (swaps_over_1 x y k region) = codes "swaps " ++ (x ++ (codes " " ++ (y ++ (codes " over " ++ (k ++ (codes " " ++ region_word region))))))
 condition_bytes (swaps_over_2 x y k l region) = codes "swaps " ++ (x ++ (codes " " ++ (y ++ (codes " over " ++ (k ++ (codes ", " ++ (l ++ (codes " " ++ region_word region))))))))
 

@@ -43,6 +43,7 @@ fn put_stmt(params: &[Param], d: u64, s: &Stmt, out: &mut Vec<u8>) -> Result<(),
     match &s.node {
         StmtNode::Skip => put(b"skip;", out),
         StmtNode::Put(x, indices, e) => put_written(params, x, indices.as_slice(), e, out),
+        StmtNode::Assert(t) => put_asserted(params, t, out),
         StmtNode::If(t, b, c) => {
             put_tested(params, b"if ", t, out)?;
             put_block(params, d, b, out)?;
@@ -105,6 +106,15 @@ fn put_written(
     put_place(params, x, indices, out)?;
     put(b" := ", out)?;
     put_expr(params, e, ExprForm::Expr, out)?;
+    put(b";", out)
+}
+
+/// Puts an `assert`.
+fn put_asserted(params: &[Param], t: &Test, out: &mut Vec<u8>) -> Result<(), NoMemory>
+    ensures { OnOk result (out.new.items ≡ out.old.items ++ (codes "assert " ++ (test_bytes (canonical_test params.now t.now) ++ codes ";"))) }
+{
+    put(b"assert ", out)?;
+    put_test(params, t, TestForm::Test, out)?;
     put(b";", out)
 }
 

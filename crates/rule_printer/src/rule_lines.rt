@@ -121,6 +121,7 @@ fn put_condition(params: &[Param], c: &Condition, out: &mut Vec<u8>) -> Result<(
         Condition::Positive(e) => put_one(params, b"positive ", *e, out),
         Condition::Constant(e) => put_one(params, b"constant ", *e, out),
         Condition::Distinct(x, y) => put_two(params, b"distinct ", *x, *y, out),
+        Condition::Quiet(s) => put_one(params, b"quiet ", *s, out),
         Condition::Swaps(s, t, names, region) => {
             put_two(params, b"swaps ", *s, *t, out)?;
             put_over(params, names.as_slice(), *region, out)

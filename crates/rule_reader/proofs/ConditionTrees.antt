@@ -6,7 +6,7 @@ use Rattle.toy_imp.specs.declared.condition.Condition.{Condition}
 use Rattle.toy_imp.specs.declared.condition.Region.{Region}
 use Rattle.toy_imp.specs.declared.condition.Region.TheVariants as region
 use Rattle.toy_imp.specs.declared.param.Param.{Param}
-use Rattle.toy_imp.specs.RuleGrammar.{ConditionTree, keeps, ignores, commutes, positive, constant, distinct, swaps_over_1, swaps_over_2, condition_value}
+use Rattle.toy_imp.specs.RuleGrammar.{ConditionTree, keeps, ignores, commutes, positive, constant, distinct, quiet, swaps_over_1, swaps_over_2, condition_value}
 use Rattle.pec_text.specs.declared.token.Sign.TheVariants as s
 use Rattle.pec_text.specs.declared.token.Token.{Token}
 use Rattle.pec_text.specs.declared.token.Token.TheVariants as t
@@ -37,8 +37,9 @@ form_has x f =
     (word_case is_form x (codes "distinct") (form.Two two.Distinct) f _ refl
     (word_case is_form x (codes "positive") (form.One one.Positive) f _ refl
     (word_case is_form x (codes "constant") (form.One one.Constant) f _ refl
+    (word_case is_form x (codes "quiet") (form.One one.Quiet) f _ refl
     (word_case is_form x (codes "swaps") form.Swaps f _ refl
-    (λ h. absurd (none-some _ h))))))))
+    (λ h. absurd (none-some _ h)))))))))
 
 abbrev is_region : List ℕ → Region → Type 0
 is_region x r = x ≡ region_word r
@@ -104,6 +105,7 @@ tokens_of_two two.Distinct p rest = refl
 tokens_of_one : (f : OfOne) (x : List ℕ) (rest : List Token) → t.Name (form_word (form.One f)) ∷ t.Name x ∷ rest ≡ condition_tokens (of_one f x) ++ rest
 tokens_of_one one.Positive x rest = refl
 tokens_of_one one.Constant x rest = refl
+tokens_of_one one.Quiet x rest = refl
 
 formed_has : (o : Option Form) (x : List ℕ) (rest : List Token) (q : ConditionTree × List Token) → form_of x ≡ o → formed_read o rest ≡ Some q
     → t.Name x ∷ rest ≡ condition_tokens q.0 ++ q.1
@@ -167,6 +169,7 @@ condition_is_read (commutes x y) rest = refl
 condition_is_read (positive x) rest = refl
 condition_is_read (constant x) rest = refl
 condition_is_read (distinct x y) rest = refl
+condition_is_read (quiet x) rest = refl
 condition_is_read (swaps_over_1 x y k region.Distinct) rest = refl
 condition_is_read (swaps_over_1 x y k region.Earlier) rest = refl
 condition_is_read (swaps_over_1 x y k region.Crossing) rest = refl

@@ -4,7 +4,7 @@ use Rattle.toy_imp.specs.declared.condition.Condition.{Condition}
 use Rattle.toy_imp.specs.declared.condition.Region.{Region}
 use Rattle.toy_imp.specs.declared.condition.Region.TheVariants as region
 use Rattle.toy_imp.specs.declared.param.Param.{Param}
-use Rattle.toy_imp.specs.RuleGrammar.{ConditionTree, keeps, ignores, commutes, positive, constant, distinct, swaps_over_1, swaps_over_2, condition_value}
+use Rattle.toy_imp.specs.RuleGrammar.{ConditionTree, keeps, ignores, commutes, positive, constant, distinct, quiet, swaps_over_1, swaps_over_2, condition_value}
 use Rattle.pec_text.specs.declared.token.Sign.TheVariants as s
 use Rattle.pec_text.specs.declared.token.Token.{Token}
 use Rattle.pec_text.specs.declared.token.Token.TheVariants as t
@@ -26,6 +26,7 @@ form_word (form.Two two.Commutes) = codes "commutes"
 form_word (form.Two two.Distinct) = codes "distinct"
 form_word (form.One one.Positive) = codes "positive"
 form_word (form.One one.Constant) = codes "constant"
+form_word (form.One one.Quiet) = codes "quiet"
 form_word form.Swaps = codes "swaps"
 
 abbrev pub form_of : List ℕ → Option Form
@@ -36,6 +37,7 @@ form_of word =
     else if bytes_eq word (codes "distinct") then Some (form.Two two.Distinct)
     else if bytes_eq word (codes "positive") then Some (form.One one.Positive)
     else if bytes_eq word (codes "constant") then Some (form.One one.Constant)
+    else if bytes_eq word (codes "quiet") then Some (form.One one.Quiet)
     else if bytes_eq word (codes "swaps") then Some form.Swaps
     else None
 
@@ -50,6 +52,7 @@ region_of word =
 abbrev pub of_one : OfOne → List ℕ → ConditionTree
 of_one one.Positive x = positive x
 of_one one.Constant x = constant x
+of_one one.Quiet x = quiet x
 
 abbrev pub of_two : OfTwo → List ℕ × List ℕ → ConditionTree
 of_two two.Keeps p = keeps p.0 p.1

@@ -28,6 +28,7 @@ pub enum OfTwo {
 pub enum OfOne {
     Positive,
     Constant,
+    Quiet,
 }
 
 /// The form that a word stands for.
@@ -46,6 +47,8 @@ pub fn form_of(word: &[u8]) -> Option<Form>
         Some(Form::One(OfOne::Positive))
     } else if word == b"constant".as_slice() {
         Some(Form::One(OfOne::Constant))
+    } else if word == b"quiet".as_slice() {
+        Some(Form::One(OfOne::Quiet))
     } else if word == b"swaps".as_slice() {
         Some(Form::Swaps)
     } else {

@@ -102,6 +102,7 @@ fn of_one(names: &Names, form: OfOne, only: &[u8]) -> Condition
     match form {
         OfOne::Positive => Condition::Positive(only),
         OfOne::Constant => Condition::Constant(only),
+        OfOne::Quiet => Condition::Quiet(only),
     }
 }
 

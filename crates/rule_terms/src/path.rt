@@ -13,8 +13,10 @@ use toy_imp::NoMemory;
 pub enum Stop {
     /// At the point of this number.
     At(u32),
-    /// In a statement parameter that does not end.
-    Stuck,
+    /// At an `assert` that is false.
+    Halted,
+    /// Before the statement parameter of this number, which does not end from there.
+    Stuck(u32),
 }
 
 /// A walk up to its stop.

@@ -169,6 +169,7 @@ pub fn same_condition(a: &Condition, b: &Condition) -> bool
         (Condition::Positive(j), Condition::Positive(k)) => j == k,
         (Condition::Constant(j), Condition::Constant(k)) => j == k,
         (Condition::Distinct(j, x), Condition::Distinct(k, y)) => j == k && x == y,
+        (Condition::Quiet(j), Condition::Quiet(k)) => j == k,
         (Condition::Swaps(j, x, over, region), Condition::Swaps(k, y, other, place)) => {
             j == k && x == y && region == place && same_numbers(over.as_slice(), other.as_slice())
         }

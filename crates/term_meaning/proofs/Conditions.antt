@@ -1,6 +1,6 @@
 -- What a condition that an instance meets says of what stands for its parameters, whatever their kinds.
 -- A parameter that stands for itself is 0, false, or never ends, so that most conditions say of it what they say of a filling.
-use Rattle.std.specs.Prelude.{◌≡◌, ◌≢◌, ℕ, [], Option, Some, None, slice_get, refl}
+use Rattle.std.specs.Prelude.{◌≡◌, ◌≢◌, ℕ, List, [], Option, Some, None, slice_get, refl}
 use Rattle.std.proofs.Common.{sym, ◌∙◌, subst}
 use Rattle.toy_imp.specs.declared.name.Name.{Name}
 use Rattle.toy_imp.specs.declared.condition.Condition.TheVariants as condition
@@ -11,20 +11,29 @@ use Rattle.toy_imp.specs.Cell.{spelled}
 use Rattle.toy_imp.specs.Store.{Store}
 use Rattle.toy_imp.specs.Value.{value}
 use Rattle.toy_imp.specs.Truth.{truth}
-use Rattle.toy_imp.specs.Ends.{Ends, Same}
+use Rattle.toy_imp.specs.Run.{Outcome, ended, halted}
+use Rattle.toy_imp.specs.Ends.{ComesOut, Ends, EndAlike, IsQuiet}
 use Rattle.toy_imp.specs.Fill.{name_by, expr_by, test_by, block_by, name_at, expr_at, test_at, block_at}
-use Rattle.toy_imp.specs.Keeps.{KeepsExpr, KeepsTest, KeepsName, ExprIgnores, TestIgnores, StmtIgnores, IsPositive, IsConstant}
-use Rattle.toy_imp.specs.Meets.{Keeps, Ignores, Commutes, Positive, Constant, Distinct, Meets}
-use Rattle.toy_imp.specs.Block.{par_stmt, Block, empty, stmt, append}
+use Rattle.toy_imp.specs.Keeps.{KeepsExpr, KeepsTest, KeepsName, ExprIgnores, TestIgnores, StmtIgnores, StmtsCommute, IsPositive, IsConstant}
+use Rattle.toy_imp.specs.Swaps.{SwapsOver}
+use Rattle.toy_imp.specs.declared.condition.Region.{Region}
+use Rattle.toy_imp.specs.Meets.{Keeps, Ignores, Commutes, Positive, Constant, Distinct, Quiet, Swaps, Meets}
+use Rattle.toy_imp.specs.Block.{par_stmt, Block, empty, stmt}
 use Rattle.toy_imp.specs.Test.{par_test}
 use Rattle.toy_imp.specs.Expr.{par_expr}
 use Rattle.toy_imp.proofs.Runs.{open_never_ends}
 
 -- ---- of what stands for itself
-pub open_ends : {A : Type 0} (k : ℕ) (s t : Store) → Ends (stmt (par_stmt k) empty) s t → A
-open_ends k s t r =
-    let none : ◌≡◌ {A = Option Store} None (Some t) = sym (open_never_ends r.steps k [] s) ∙ r.reached in
+open_comes_out : {A : Type 0} (k : ℕ) (s : Store) (o : Outcome) → ComesOut (stmt (par_stmt k) empty) s o → A
+open_comes_out k s o r =
+    let none : ◌≡◌ {A = Option Outcome} None (Some o) = sym (open_never_ends r.steps k [] s) ∙ r.reached in
     cc
+
+pub open_ends : {A : Type 0} (k : ℕ) (s t : Store) → Ends (stmt (par_stmt k) empty) s t → A
+open_ends k s t r = open_comes_out k s (ended t) r
+
+open_is_quiet : (k : ℕ) → IsQuiet (stmt (par_stmt k) empty)
+open_is_quiet k = record { never = λ s t r. open_comes_out k s (halted t) r }
 
 open_expr_kept : (b : Block) (k : ℕ) → KeepsExpr b (par_expr k)
 unfolding value
@@ -110,7 +119,7 @@ ignores_stmt k x (Some (filling.Expr e)) g h = open_stmt_ignores k (name_by x g)
 ignores_stmt k x (Some (filling.Test q)) g h = open_stmt_ignores k (name_by x g)
 
 -- ---- the others
-commutes : (j k : ℕ) (f g : Option Filling) → Commutes f g → Same (append (block_by j f) (block_by k g)) (append (block_by k g) (block_by j f))
+commutes : (j k : ℕ) (f g : Option Filling) → Commutes f g → StmtsCommute (block_by j f) (block_by k g)
 commutes j k None g h = absurd h
 commutes j k (Some (filling.Name x)) g h = absurd h
 commutes j k (Some (filling.Expr e)) g h = absurd h
@@ -120,6 +129,24 @@ commutes j k (Some (filling.Stmt b)) (Some (filling.Name x)) h = absurd h
 commutes j k (Some (filling.Stmt b)) (Some (filling.Expr e)) h = absurd h
 commutes j k (Some (filling.Stmt b)) (Some (filling.Test q)) h = absurd h
 commutes j k (Some (filling.Stmt b)) (Some (filling.Stmt c)) h = h
+
+quiet : (k : ℕ) (f : Option Filling) → Quiet f → IsQuiet (block_by k f)
+quiet k None h = absurd h
+quiet k (Some (filling.Name x)) h = absurd h
+quiet k (Some (filling.Expr e)) h = absurd h
+quiet k (Some (filling.Test q)) h = absurd h
+quiet k (Some (filling.Stmt b)) h = h
+
+swaps : (j k : ℕ) (f g : Option Filling) (counters : List Name) (region : Region) → Swaps f g counters region → SwapsOver (block_by j f) (block_by k g) counters region
+swaps j k None g counters region h = absurd h
+swaps j k (Some (filling.Name x)) g counters region h = absurd h
+swaps j k (Some (filling.Expr e)) g counters region h = absurd h
+swaps j k (Some (filling.Test q)) g counters region h = absurd h
+swaps j k (Some (filling.Stmt b)) None counters region h = absurd h
+swaps j k (Some (filling.Stmt b)) (Some (filling.Name x)) counters region h = absurd h
+swaps j k (Some (filling.Stmt b)) (Some (filling.Expr e)) counters region h = absurd h
+swaps j k (Some (filling.Stmt b)) (Some (filling.Test q)) counters region h = absurd h
+swaps j k (Some (filling.Stmt b)) (Some (filling.Stmt c)) counters region h = h
 
 positive : (k : ℕ) (f : Option Filling) → Positive f → IsPositive (expr_by k f)
 positive k None h = absurd h
@@ -168,8 +195,14 @@ module _ (i : Instance) where
   pub ignores_run : (k x : ℕ) → Meets i (condition.Ignores k x) → StmtIgnores (block_at i k) (name_at i x)
   ignores_run k x h = ignores_stmt k x (slice_get i.fillings k) (slice_get i.fillings x) h
 
-  pub runs_commute : (j k : ℕ) → Meets i (condition.Commutes j k) → Same (append (block_at i j) (block_at i k)) (append (block_at i k) (block_at i j))
+  pub runs_commute : (j k : ℕ) → Meets i (condition.Commutes j k) → StmtsCommute (block_at i j) (block_at i k)
   runs_commute j k h = commutes j k (slice_get i.fillings j) (slice_get i.fillings k) h
+
+  pub statement_is_quiet : (k : ℕ) → Meets i (condition.Quiet k) → IsQuiet (block_at i k)
+  statement_is_quiet k h = quiet k (slice_get i.fillings k) h
+
+  pub statements_swap : (j k : ℕ) (names : List ℕ) (region : Region) → (h : Meets i (condition.Swaps j k names region)) → SwapsOver (block_at i j) (block_at i k) h.counters region
+  statements_swap j k names region h = swaps j k (slice_get i.fillings j) (slice_get i.fillings k) h.counters region h.swaps
 
   pub is_positive : (e : ℕ) → Meets i (condition.Positive e) → IsPositive (expr_at i e)
   is_positive e h = positive e (slice_get i.fillings e) h

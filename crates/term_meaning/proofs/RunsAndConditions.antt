@@ -11,8 +11,8 @@ use Rattle.toy_imp.specs.Cell.{spelled, variable}
 use Rattle.toy_imp.specs.Store.{Store, read, write}
 use Rattle.toy_imp.specs.Value.{value}
 use Rattle.toy_imp.specs.Truth.{truth}
-use Rattle.toy_imp.specs.Run.{before}
-use Rattle.toy_imp.specs.Ends.{Reaches, Ends, Same}
+use Rattle.toy_imp.specs.Run.{before, ended}
+use Rattle.toy_imp.specs.Ends.{Reaches, Ends, EndAlike}
 use Rattle.toy_imp.specs.Fill.{name_at, expr_at, test_at, block_at}
 use Rattle.toy_imp.specs.Keeps.{ExprIgnores, TestIgnores, StmtIgnores, IsPositive, IsConstant}
 use Rattle.toy_imp.specs.Meets.{Meets}
@@ -38,11 +38,11 @@ pub record Ended (b : Block) (o p : Option Store) : Type 0 where
   pub is : p ≡ Some to
   pub ends : Ends b from to
 
-ended : (A : Type 0) (i : Instance) (k : ℕ) (o p : Option Store) → AgreesAt A i k o p → is_some p ≡ true → Ended (block_at i k) o p
-ended A i k None None said there = absurd (true≢false (sym there))
-ended A i k None (Some t) said there = absurd (true≢false (ap is_some said))
-ended A i k (Some s) None said there = absurd (true≢false (sym there))
-ended A i k (Some s) (Some t) said there = record { from = s; to = t; was = refl; is = refl; ends = said }
+run_ended : (A : Type 0) (i : Instance) (k : ℕ) (o p : Option Store) → AgreesAt A i k o p → is_some p ≡ true → Ended (block_at i k) o p
+run_ended A i k None None said there = absurd (true≢false (sym there))
+run_ended A i k None (Some t) said there = absurd (true≢false (ap is_some said))
+run_ended A i k (Some s) None said there = absurd (true≢false (sym there))
+run_ended A i k (Some s) (Some t) said there = record { from = s; to = t; was = refl; is = refl; ends = said }
 
 write_ignored_by_value : (e : Expr) (x : Name) → ExprIgnores e x → (o : Option Store) (n : List ℕ) (at : List ℤ) (v : ℤ) → n ≡ spelled x → value_in (put_in o (n, at) v) e ≡ value_in o e
 write_ignored_by_value e x m None n at v names = refl
@@ -76,12 +76,12 @@ record Both (b c : Block) (s t : Store) : Type 0 where
 both_one : (b c : Block) (s t : Store) → Both b c s t → Ends (append b c) s t
 both_one b c s t d =
     let work : before b [] ++ before c [] ≡ before (append b c) [] = sym (before-split b (before c [])) ∙ sym (before-append b c []) in
-    subst (λ w. Reaches w s t) work (reaches_through (before b []) (before c []) s d.between t d.first d.second)
+    subst (λ w. Reaches w s (ended t)) work (reaches_through (before b []) (before c []) s d.between (ended t) d.first d.second)
 
 one_both : (b c : Block) (s t : Store) → Ends (append b c) s t → Both b c s t
 one_both b c s t r =
     let work : before (append b c) [] ≡ before b [] ++ before c [] = before-append b c [] ∙ before-split b (before c []) in
-    let way : Through (before b []) (before c []) s t = through (before b []) (before c []) s t (subst (λ w. Reaches w s t) work r) in
+    let way : Through (before b []) (before c []) s (ended t) = through (before b []) (before c []) s t (subst (λ w. Reaches w s (ended t)) work r) in
     record { between = way.between; first = way.front; second = way.rear }
 
 -- what is said of two runs one after the other
@@ -96,7 +96,7 @@ both_agree A i j k s (Some m) None ga gb =
     λ t d. gb t (subst (λ z. Ends (block_at i k) z t) (one_final_store (before (block_at i j) []) s d.between m d.first ga) d.second)
 both_agree A i j k s (Some m) (Some t) ga gb = record { between = m; first = ga; second = gb }
 
-exchange : (A : Type 0) (b c : Block) → Same (append b c) (append c b) → (s : Store) (p q : Option Store) → AgreesBoth A b c s p → AgreesBoth A c b s q → (p ≡ q → A) → A
+exchange : (A : Type 0) (b c : Block) → EndAlike (append b c) (append c b) → (s : Store) (p q : Option Store) → AgreesBoth A b c s p → AgreesBoth A c b s q → (p ≡ q → A) → A
 exchange A b c same s None None gp gq ret = ret refl
 exchange A b c same s None (Some t) gp gq ret = gp t (one_both b c s t (same.back s t (both_one c b s t gq)))
 exchange A b c same s (Some t) None gp gq ret = gq t (one_both c b s t (same.to s t (both_one b c s t gp)))
@@ -107,7 +107,7 @@ none_after : (A : Type 0) (i : Instance) (k : ℕ) (o p : Option Store) → Agre
 none_after A i k None p said none = said
 none_after A i k (Some s) p said none = absurd (true≢false (ap is_some none))
 
-runs_exchange : (A : Type 0) (i : Instance) (j k : ℕ) → Same (append (block_at i j) (block_at i k)) (append (block_at i k) (block_at i j)) → (o a b c d : Option Store) → AgreesAt A i j o a → AgreesAt A i k a b → AgreesAt A i k o c → AgreesAt A i j c d → (b ≡ d → A) → A
+runs_exchange : (A : Type 0) (i : Instance) (j k : ℕ) → EndAlike (append (block_at i j) (block_at i k)) (append (block_at i k) (block_at i j)) → (o a b c d : Option Store) → AgreesAt A i j o a → AgreesAt A i k a b → AgreesAt A i k o c → AgreesAt A i j c d → (b ≡ d → A) → A
 runs_exchange A i j k same None a b c d ga gb gc gd ret = ret (none_after A i k a b gb ga ∙ sym (none_after A i j c d gd gc))
 runs_exchange A i j k same (Some s) a b c d ga gb gc gd ret =
     exchange A (block_at i j) (block_at i k) same s b d (both_agree A i j k s a b ga gb) (both_agree A i k j s c d gc gd) ret
@@ -147,7 +147,7 @@ module _ (i : Instance) (T : List Entry) (l r : Store) where
 module _ (A : Type 0) (i : Instance) (T : List Entry) (l r : Store) (f : Faithful A i T) where
   module _ (k : ℕ) (u : StoreTerm) (c : CoversStore i T l r (run k u)) (there : is_some (store_of i T l r (run k u)) ≡ true) where
     the_run : Ended (block_at i k) (store_of i T l r u) (store_of i T l r (run k u))
-    the_run = ended A i k _ _ (run_agrees A i T l r f k u c) there
+    the_run = run_ended A i k _ _ (run_agrees A i T l r f k u c) there
 
     pub run_keeps_value : (e : ℕ) → Meets i (condition.Keeps k e) → value_of i T l r (ev e (run k u)) ≡ value_of i T l r (ev e u)
     unfolding value_of
@@ -187,5 +187,5 @@ module _ (A : Type 0) (i : Instance) (T : List Entry) (l r : Store) (f : Faithfu
   pub runs_in_either_order : (j k : ℕ) (s : StoreTerm) → Meets i (condition.Commutes j k) → CoversStore i T l r (run k (run j s)) → CoversStore i T l r (run j (run k s)) → (store_of i T l r (run k (run j s)) ≡ store_of i T l r (run j (run k s)) → A) → A
   unfolding CoversStore
   runs_in_either_order j k s m c d ret =
-      runs_exchange A i j k (runs_commute i j k m) (store_of i T l r s) _ _ _ _
+      runs_exchange A i j k (runs_commute i j k m).alike (store_of i T l r s) _ _ _ _
       (run_agrees A i T l r f j s c.0) (run_agrees A i T l r f k (run j s) c) (run_agrees A i T l r f k s d.0) (run_agrees A i T l r f j (run k s) d) ret

@@ -6,7 +6,7 @@ use Rattle.toy_imp.specs.declared.param.Kind.TheVariants as kind
 use Rattle.toy_imp.specs.declared.param.Param.{Param}
 use Rattle.toy_imp.specs.Expr.{Expr, num, at, add, sub, mul, par_expr, no_exprs, expr}
 use Rattle.toy_imp.specs.Test.{Test, less, not_of, and_of, or_of}
-use Rattle.toy_imp.specs.Block.{Block, empty, stmt, skip, put, if_then, while_do, for_to, let_in}
+use Rattle.toy_imp.specs.Block.{Block, empty, stmt, skip, put, assert_that, if_then, while_do, for_to, let_in}
 use Rattle.toy_imp.specs.ExprGrammar.{term, plus, minus, TermTree, factor, times, numeral, negative, cell, group, variable, index_1}
 use Rattle.toy_imp.specs.TestGrammar.{OneTree, both, either, one, also, negated, bracketed, below}
 use Rattle.toy_imp.specs.BlockGrammar.{written, no_stmts, stmts, stmts_nesting}

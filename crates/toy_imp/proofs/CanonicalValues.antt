@@ -9,7 +9,7 @@ use Rattle.toy_imp.specs.declared.param.Kind.TheVariants as kind
 use Rattle.toy_imp.specs.declared.param.Param.{Param}
 use Rattle.toy_imp.specs.Expr.{Expr, num, at, add, sub, mul, par_expr, Exprs, no_exprs, expr}
 use Rattle.toy_imp.specs.Test.{Test, less, less_eq, equal, not_of, and_of, or_of, par_test}
-use Rattle.toy_imp.specs.Block.{Stmt, skip, put, if_then, while_do, for_to, let_in, par_stmt, Block, empty, stmt}
+use Rattle.toy_imp.specs.Block.{Stmt, skip, put, assert_that, if_then, while_do, for_to, let_in, par_stmt, Block, empty, stmt}
 use Rattle.toy_imp.specs.Parameters.{number_of, name_value, cell_by, cell_value}
 use Rattle.toy_imp.specs.ExprGrammar.{ExprTree, term, plus, minus, factor, times, place_name, expr_value, term_value, factor_value, indices_value}
 use Rattle.toy_imp.specs.TestGrammar.{TestTree, both, either, one, also, test_tree_value, both_value, one_value}
@@ -127,6 +127,7 @@ mutual
       let later : (are_spellable_indices ps es && is_spellable ps e) ≡ true = (and_parts _ _ h).1 in
       let name : name_value ps (place_name (canonical_place ps (written_name ps x) es)) ≡ x = ap (name_value ps) (place-name ps (written_name ps x) es) ∙ name-value ps x ((and_parts _ _ h).0) in
       λ i. put (name i) (indices-value ps (written_name ps x) es ((and_parts _ _ later).0) i) (expr-value ps e ((and_parts _ _ later).1) i)
+  stmt-value ps (assert_that t) h = λ i. assert_that (test-value ps t h i)
   stmt-value ps (if_then t b c) h =
       let later : (is_spellable_block ps b && is_spellable_block ps c) ≡ true = (and_parts _ _ h).1 in
       λ i. if_then (test-value ps t ((and_parts _ _ h).0) i) (block-value ps b ((and_parts _ _ later).0) i) (block-value ps c ((and_parts _ _ later).1) i)

@@ -9,11 +9,11 @@ use Rattle.toy_imp.specs.Cell.{spelled, variable}
 use Rattle.toy_imp.specs.Store.{Store, read, write}
 use Rattle.toy_imp.specs.Value.{value, values}
 use Rattle.toy_imp.specs.Truth.{truth}
-use Rattle.toy_imp.specs.Run.{Item, act, turns, restore, before, step, run}
+use Rattle.toy_imp.specs.Run.{Item, act, turns, restore, halt, before, step, ended, halted, run}
 use Rattle.toy_imp.specs.Fill.{name_at, expr_at, test_at, block_at, fill_name, fill_expr, fill_exprs, fill_test, fill_stmt, fill}
 use Rattle.toy_imp.specs.Expr.{Expr, num, at, add, sub, mul, par_expr, Exprs, no_exprs, expr}
 use Rattle.toy_imp.specs.Test.{Test, less, less_eq, equal, not_of, and_of, or_of, par_test}
-use Rattle.toy_imp.specs.Block.{Stmt, skip, put, if_then, while_do, for_to, let_in, par_stmt, Block, empty, stmt, append}
+use Rattle.toy_imp.specs.Block.{Stmt, skip, put, assert_that, if_then, while_do, for_to, let_in, par_stmt, Block, empty, stmt, append}
 
 -- ---- values
 pub value-num : (z : ℤ) (s : Store) → value (num z) s ≡ z
@@ -154,6 +154,10 @@ pub fill_stmt-put : (i : Instance) (x : Name) (es : Exprs) (e : Expr) (rest : Bl
 unfolding fill_stmt
 fill_stmt-put i x es e rest = refl
 
+pub fill_stmt-assert : (i : Instance) (t : Test) (rest : Block) → fill_stmt i (assert_that t) rest ≡ stmt (assert_that (fill_test i t)) rest
+unfolding fill_stmt
+fill_stmt-assert i t rest = refl
+
 pub fill_stmt-if : (i : Instance) (t : Test) (b c : Block) (rest : Block) → fill_stmt i (if_then t b c) rest ≡ stmt (if_then (fill_test i t) (fill i b) (fill i c)) rest
 unfolding fill_stmt
 fill_stmt-if i t b c rest = refl
@@ -191,6 +195,10 @@ pub step-put : (x : Name) (es : Exprs) (e : Expr) (s : Store) (work : List Item)
 unfolding step
 step-put x es e s work = refl
 
+pub step-assert : (t : Test) (s : Store) (work : List Item) → step (act (assert_that t)) s work ≡ record { store = s; work = cond (truth t s) work (halt ∷ work) }
+unfolding step
+step-assert t s work = refl
+
 pub step-if : (t : Test) (b c : Block) (s : Store) (work : List Item) → step (act (if_then t b c)) s work ≡ record { store = s; work = cond (truth t s) (before b work) (before c work) }
 unfolding step
 step-if t b c s work = refl
@@ -220,24 +228,33 @@ unfolding step
 step-restore x v s work = refl
 
 -- ---- runs
-pub run-done : (n : ℕ) (s : Store) → run n [] s ≡ Some s
+pub run-done : (n : ℕ) (s : Store) → run n [] s ≡ Some (ended s)
 unfolding run
 run-done n s = refl
 
-pub run-spent : (item : Item) (work : List Item) (s : Store) → run zero (item ∷ work) s ≡ None
+pub run-halted : (n : ℕ) (work : List Item) (s : Store) → run n (halt ∷ work) s ≡ Some (halted s)
 unfolding run
-run-spent item work s = refl
+run-halted n work s = refl
 
-pub run-next : (n : ℕ) (item : Item) (work : List Item) (s : Store) → run (suc n) (item ∷ work) s ≡ run n ((step item s work).work) ((step item s work).store)
+-- of a statement, which is never to halt; so too of turns and of a restoring
+pub run-spent : (a : Stmt) (work : List Item) (s : Store) → run zero (act a ∷ work) s ≡ None
 unfolding run
-run-next n item work s = refl
+run-spent a work s = refl
+
+-- a step more, before `halt` too
+pub run-next : (n : ℕ) (item : Item) (work : List Item) (s : Store) → run (suc n) (item ∷ work) s ≡ run n ((step item s work).work) ((step item s work).store)
+unfolding run step
+run-next n halt work s = refl
+run-next n (act a) work s = refl
+run-next n (turns x k hi b) work s = refl
+run-next n (restore x v) work s = refl
 
 pub ruleset value_cases = (value-num, value-at, value-add, value-sub, value-mul, value-par, values-none, values-more)
 
 pub ruleset truth_cases = (truth-less, truth-less_eq, truth-equal, truth-not, truth-and, truth-or, truth-par)
 
-pub ruleset fill_cases = (fill_name-own, fill_name-par, fill_expr-num, fill_expr-at, fill_expr-add, fill_expr-sub, fill_expr-mul, fill_expr-par, fill_exprs-none, fill_exprs-more, fill_test-less, fill_test-less_eq, fill_test-equal, fill_test-not, fill_test-and, fill_test-or, fill_test-par, fill_stmt-skip, fill_stmt-put, fill_stmt-if, fill_stmt-while, fill_stmt-for, fill_stmt-let, fill_stmt-par, fill-empty, fill-stmt)
+pub ruleset fill_cases = (fill_name-own, fill_name-par, fill_expr-num, fill_expr-at, fill_expr-add, fill_expr-sub, fill_expr-mul, fill_expr-par, fill_exprs-none, fill_exprs-more, fill_test-less, fill_test-less_eq, fill_test-equal, fill_test-not, fill_test-and, fill_test-or, fill_test-par, fill_stmt-skip, fill_stmt-put, fill_stmt-assert, fill_stmt-if, fill_stmt-while, fill_stmt-for, fill_stmt-let, fill_stmt-par, fill-empty, fill-stmt)
 
-pub ruleset step_cases = (step-skip, step-put, step-if, step-while, step-for, step-let, step-par, step-turns, step-restore)
+pub ruleset step_cases = (step-skip, step-put, step-assert, step-if, step-while, step-for, step-let, step-par, step-turns, step-restore)
 
-pub ruleset run_cases = (run-done, run-spent, run-next)
+pub ruleset run_cases = (run-done, run-halted, run-spent, run-next)

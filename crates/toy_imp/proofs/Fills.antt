@@ -3,7 +3,7 @@
 use Rattle.std.specs.Prelude.{◌≡◌, refl}
 use Rattle.std.proofs.Common.{sym, ◌∙◌, ap}
 use Rattle.toy_imp.specs.declared.instance.Instance.{Instance}
-use Rattle.toy_imp.specs.Block.{Stmt, skip, put, if_then, while_do, for_to, let_in, par_stmt, Block, empty, stmt, append}
+use Rattle.toy_imp.specs.Block.{Stmt, skip, put, assert_that, if_then, while_do, for_to, let_in, par_stmt, Block, empty, stmt, append}
 use Rattle.toy_imp.specs.Fill.{block_at, fill_stmt, fill}
 use Rattle.toy_imp.proofs.Alikes.{append-assoc}
 
@@ -12,6 +12,7 @@ pub fill_stmt-append : (i : Instance) (s : Stmt) (b c : Block) → fill_stmt i s
 unfolding fill_stmt
 fill_stmt-append i skip b c = refl
 fill_stmt-append i (put x is e) b c = refl
+fill_stmt-append i (assert_that t) b c = refl
 fill_stmt-append i (if_then t d e) b c = refl
 fill_stmt-append i (while_do t d) b c = refl
 fill_stmt-append i (for_to x lo hi d) b c = refl

@@ -1,7 +1,7 @@
 -- The count of a side's points is the number of their places.
 use Rattle.std.proofs.Common.{◌≡◌, ◌≤◌, ℕ, suc, ◌+◌, ◌-◌, ◌^◌, min, List, ◌∷◌, length, map, drop, refl, ap, subst, arith}
 use Rattle.std.proofs.lemmas.List.{length-append, length-map, drop_all}
-use Rattle.toy_imp.specs.Block.{Stmt, skip, put, if_then, while_do, for_to, let_in, par_stmt, Block, empty, stmt}
+use Rattle.toy_imp.specs.Block.{Stmt, skip, put, assert_that, if_then, while_do, for_to, let_in, par_stmt, Block, empty, stmt}
 use Rattle.toy_imp.specs.BlockView.{block_of}
 use Rattle.toy_imp.specs.Points.{Place, stmt_points, points_from, stmt_count, point_count}
 
@@ -9,6 +9,7 @@ mutual
   pub as_many_inside : (s : Stmt) → length (stmt_points s) ≡ stmt_count s
   as_many_inside skip = refl
   as_many_inside (put x is e) = refl
+  as_many_inside (assert_that t) = refl
   as_many_inside (if_then t b c) = rw (length-append (map (λ place. 0 ∷ place) (points_from 0 b)) (map (λ place. 1 ∷ place) (points_from 0 c)), length-map (points_from 0 b) (λ (place : Place). 0 ∷ place), length-map (points_from 0 c) (λ (place : Place). 1 ∷ place), as_many_places 0 b, as_many_places 0 c) refl
   as_many_inside (while_do t b) = ap suc (rw (length-map (points_from 0 b) (λ (place : Place). 0 ∷ place), as_many_places 0 b) refl)
   as_many_inside (for_to x lo hi b) = rw (length-map (points_from 0 b) (λ (place : Place). 0 ∷ place), as_many_places 0 b) refl

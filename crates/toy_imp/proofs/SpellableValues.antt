@@ -13,7 +13,7 @@ use Rattle.toy_imp.specs.Uses.{expr_any, test_any, stmt_any, block_any}
 use Rattle.toy_imp.specs.Parameters.{number_of, kind_of, name_value, cell_by}
 use Rattle.toy_imp.specs.ExprGrammar.{ExprTree, term, plus, minus, TermTree, factor, times, FactorTree, numeral, negative, cell, group, PlaceTree, variable, index_1, index_2, index_3, place_name, expr_value, term_value, factor_value, indices_value}
 use Rattle.toy_imp.specs.TestGrammar.{TestTree, both, either, BothTree, one, also, OneTree, negated, bracketed, named_test, below, at_most, same, test_tree_value, both_value, one_value}
-use Rattle.toy_imp.specs.BlockGrammar.{StmtTree, skipped, written, chosen, repeated, counted, bound, named_stmt, StmtsTree, no_stmts, stmts, stmt_tree_value, stmts_value}
+use Rattle.toy_imp.specs.BlockGrammar.{StmtTree, skipped, written, asserted, chosen, repeated, counted, bound, named_stmt, StmtsTree, no_stmts, stmts, stmt_tree_value, stmts_value}
 use Rattle.toy_imp.specs.ExprCanonical.{declared_name, written_name}
 use Rattle.toy_imp.specs.Spellable.{is_first, is_spellable_name, is_expr_kind, names_expr, is_spellable, are_spellable_indices, is_spellable_test, is_spellable_stmt, is_spellable_block, is_missing}
 
@@ -125,6 +125,7 @@ mutual
   pub stmt-spellable : (ps : List Param) (a : StmtTree) → stmt_any (is_missing (length ps)) (stmt_tree_value ps a) ≡ false → is_spellable_stmt ps (stmt_tree_value ps a) ≡ true
   stmt-spellable ps skipped h = refl
   stmt-spellable ps (written a e) h = and_from _ _ (name-spellable ps (place_name a)) (and_from _ _ (indices-spellable ps a) (expr-spellable ps e))
+  stmt-spellable ps (asserted t) h = test-spellable ps t h
   stmt-spellable ps (chosen t b c) h =
       let blocks : (block_any (is_missing (length ps)) (stmts_value ps b) || block_any (is_missing (length ps)) (stmts_value ps c)) ≡ false = (or_parts _ _ h).1 in
       and_from _ _ (test-spellable ps t ((or_parts _ _ h).0)) (and_from _ _ (block-spellable ps b ((or_parts _ _ blocks).0)) (block-spellable ps c ((or_parts _ _ blocks).1)))

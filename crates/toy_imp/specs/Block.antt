@@ -9,6 +9,7 @@ mutual
   pub data Stmt : Type 0 where
     skip : Stmt
     put : Name → Exprs → Expr → Stmt
+    assert_that : Test → Stmt
     if_then : Test → Block → Block → Stmt
     while_do : Test → Block → Stmt
     for_to : Name → Expr → Expr → Block → Stmt
@@ -28,6 +29,7 @@ abbrev mutual
   pub stmt_depth : Stmt → ℕ
   stmt_depth skip = 1
   stmt_depth (put x is e) = 1
+  stmt_depth (assert_that t) = 1
   stmt_depth (if_then t b c) = suc (max (block_depth b) (block_depth c))
   stmt_depth (while_do t b) = suc (block_depth b)
   stmt_depth (for_to x lo hi b) = suc (block_depth b)

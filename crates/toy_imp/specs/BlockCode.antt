@@ -6,7 +6,7 @@ use base.Stored.{Gv, gnil, gnum, gcons, Coded}
 use Rattle.toy_imp.specs.NameCode.{number, name_code, name_read, name_read-code}
 use Rattle.toy_imp.specs.ExprCode.{expr_code_of, expr_read, expr_back, exprs_code_of, exprs_read, exprs_back}
 use Rattle.toy_imp.specs.TestCode.{test_code_of, test_read, test_back}
-use Rattle.toy_imp.specs.Block.{Stmt, skip, put, if_then, while_do, for_to, let_in, par_stmt, Block, empty, stmt}
+use Rattle.toy_imp.specs.Block.{Stmt, skip, put, assert_that, if_then, while_do, for_to, let_in, par_stmt, Block, empty, stmt}
 
 abbrev mutual
   pub stmt_code_of : Stmt → Gv
@@ -16,7 +16,8 @@ abbrev mutual
   stmt_code_of (while_do t b) = gcons (gnum 3) (gcons (test_code_of t) (block_code_of b))
   stmt_code_of (for_to x lo hi b) = gcons (gnum 4) (gcons (name_code x) (gcons (expr_code_of lo) (gcons (expr_code_of hi) (block_code_of b))))
   stmt_code_of (let_in x e b) = gcons (gnum 5) (gcons (name_code x) (gcons (expr_code_of e) (block_code_of b)))
-  stmt_code_of (par_stmt k) = gcons (gnum 6) (gnum k)
+  stmt_code_of (assert_that t) = gcons (gnum 6) (test_code_of t)
+  stmt_code_of (par_stmt k) = gcons (gnum 7) (gnum k)
 
   pub block_code_of : Block → Gv
   block_code_of empty = gnil
@@ -54,7 +55,8 @@ stmt_by (suc (suc zero)) r = if_then (test_read (raw (first r))) (as_block (firs
 stmt_by (suc (suc (suc zero))) r = while_do (test_read (raw (first r))) (as_block (second r))
 stmt_by (suc (suc (suc (suc zero)))) r = for_to (name_read (raw (first r))) (expr_read (raw (first (second r)))) (expr_read (raw (first (second (second r))))) (as_block (second (second (second r))))
 stmt_by (suc (suc (suc (suc (suc zero))))) r = let_in (name_read (raw (first r))) (expr_read (raw (first (second r)))) (as_block (second (second r)))
-stmt_by (suc (suc (suc (suc (suc (suc n)))))) r = par_stmt (number (raw r))
+stmt_by (suc (suc (suc (suc (suc (suc zero)))))) r = assert_that (test_read (raw r))
+stmt_by (suc (suc (suc (suc (suc (suc (suc n))))))) r = par_stmt (number (raw r))
 
 abbrev read : Gv → Read
 read gnil = leaf gnil
@@ -75,6 +77,7 @@ mutual
   stmt_back (while_do t b) = λ i. while_do ((ap test_read (raw-read (test_code_of t)) ∙ test_back t) i) (block_back b i)
   stmt_back (for_to x lo hi b) = λ i. for_to ((ap name_read (raw-read (name_code x)) ∙ name_read-code x) i) ((ap expr_read (raw-read (expr_code_of lo)) ∙ expr_back lo) i) ((ap expr_read (raw-read (expr_code_of hi)) ∙ expr_back hi) i) (block_back b i)
   stmt_back (let_in x e b) = λ i. let_in ((ap name_read (raw-read (name_code x)) ∙ name_read-code x) i) ((ap expr_read (raw-read (expr_code_of e)) ∙ expr_back e) i) (block_back b i)
+  stmt_back (assert_that t) = λ i. assert_that ((ap test_read (raw-read (test_code_of t)) ∙ test_back t) i)
   stmt_back (par_stmt k) = refl
 
   pub block_back : (b : Block) → as_block (read (block_code_of b)) ≡ b

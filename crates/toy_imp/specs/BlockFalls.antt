@@ -6,7 +6,7 @@ use denote.Param.Weighed.{most}
 use Rattle.toy_imp.specs.Block.{Stmt, stmt_depth, block_depth}
 use Rattle.toy_imp.specs.BlockView.{stmt_of, block_of}
 use Rattle.toy_imp.specs.declared.block.StmtNode.{StmtNode}
-use Rattle.toy_imp.specs.declared.block.StmtNode.TheVariants.{Skip, Put, If, While, For, Let, Par}
+use Rattle.toy_imp.specs.declared.block.StmtNode.TheVariants.{Skip, Put, Assert, If, While, For, Let, Par}
 use Rattle.toy_imp.specs.declared.block.Block.TheDeep.{deep-StmtNode}
 
 pub stmts_le : (ss : List Stmt) → most (λ s. stmt_depth s + 1) ss ≤ block_depth (block_of ss)
@@ -19,6 +19,7 @@ block_falls ss = omega (arith, stmts_le ss)
 pub stmt_falls : (a : StmtNode) → max (deep-StmtNode a) 0 ≤ stmt_depth (stmt_of a)
 stmt_falls Skip = omega arith
 stmt_falls (Put x is e) = omega arith
+stmt_falls (Assert t) = omega arith
 stmt_falls (If t b c) = omega arith
 stmt_falls (While t b) = omega arith
 stmt_falls (For x lo hi b) = omega arith

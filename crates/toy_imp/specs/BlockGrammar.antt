@@ -2,17 +2,18 @@
 -- Of a tree: its value under declared names, its levels, its operators, and the nesting of the text.
 use Rattle.std.specs.Prelude.{ℕ, suc, ◌+◌, ◌/◌, max, List}
 use Rattle.toy_imp.specs.declared.param.Param.{Param}
-use Rattle.toy_imp.specs.Block.{Stmt, skip, put, if_then, while_do, for_to, let_in, Block, empty, stmt}
+use Rattle.toy_imp.specs.Block.{Stmt, skip, put, assert_that, if_then, while_do, for_to, let_in, Block, empty, stmt}
 use Rattle.toy_imp.specs.ExprGrammar.{ExprTree, PlaceTree, place_name, indices_value, expr_value, expr_levels, expr_operators, index_operators, place_levels}
 use Rattle.toy_imp.specs.TestGrammar.{TestTree, test_tree_value, test_levels, test_operators}
 use Rattle.toy_imp.specs.Parameters.{name_value, stmt_value}
 
 mutual
-  -- stmt : "skip" ";" | place ":=" expr ";" | "if" test block "else" block | "while" test block
+  -- stmt : "skip" ";" | place ":=" expr ";" | "assert" test ";" | "if" test block "else" block | "while" test block
   --      | "for" ID "=" expr "to" expr block | "let" ID "=" expr block | ID ";"
   pub data StmtTree : Type 0 where
     skipped : StmtTree
     written : PlaceTree → ExprTree → StmtTree
+    asserted : TestTree → StmtTree
     chosen : TestTree → StmtsTree → StmtsTree → StmtTree
     repeated : TestTree → StmtsTree → StmtTree
     counted : List ℕ → ExprTree → ExprTree → StmtsTree → StmtTree
@@ -28,6 +29,7 @@ abbrev mutual
   pub stmt_tree_value : List Param → StmtTree → Stmt
   stmt_tree_value ps skipped = skip
   stmt_tree_value ps (written a e) = put (name_value ps (place_name a)) (indices_value ps a) (expr_value ps e)
+  stmt_tree_value ps (asserted t) = assert_that (test_tree_value ps t)
   stmt_tree_value ps (chosen t b c) = if_then (test_tree_value ps t) (stmts_value ps b) (stmts_value ps c)
   stmt_tree_value ps (repeated t b) = while_do (test_tree_value ps t) (stmts_value ps b)
   stmt_tree_value ps (counted x lo hi b) = for_to (name_value ps x) (expr_value ps lo) (expr_value ps hi) (stmts_value ps b)
@@ -43,6 +45,7 @@ abbrev mutual
   pub stmt_levels : StmtTree → ℕ
   stmt_levels skipped = 0
   stmt_levels (written a e) = max (place_levels a) (expr_levels e)
+  stmt_levels (asserted t) = test_levels t
   stmt_levels (chosen t b c) = max (test_levels t) (max (suc (stmts_levels b)) (suc (stmts_levels c)))
   stmt_levels (repeated t b) = max (test_levels t) (suc (stmts_levels b))
   stmt_levels (counted x lo hi b) = max (expr_levels lo) (max (expr_levels hi) (suc (stmts_levels b)))
@@ -58,6 +61,7 @@ abbrev mutual
   pub stmt_operators : StmtTree → ℕ
   stmt_operators skipped = 0
   stmt_operators (written a e) = max (index_operators a) (expr_operators e)
+  stmt_operators (asserted t) = test_operators t
   stmt_operators (chosen t b c) = max (test_operators t) (max (stmts_operators b) (stmts_operators c))
   stmt_operators (repeated t b) = max (test_operators t) (stmts_operators b)
   stmt_operators (counted x lo hi b) = max (expr_operators lo) (max (expr_operators hi) (stmts_operators b))

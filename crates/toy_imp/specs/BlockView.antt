@@ -2,9 +2,9 @@
 -- Lists of expressions and of statements are lists there and trees here.
 use Rattle.std.specs.Prelude.{List, [], ◌∷◌}
 use Rattle.toy_imp.specs.ExprView.{exprs_of}
-use Rattle.toy_imp.specs.Block.{Stmt, skip, put, if_then, while_do, for_to, let_in, par_stmt, Block, empty, stmt}
+use Rattle.toy_imp.specs.Block.{Stmt, skip, put, assert_that, if_then, while_do, for_to, let_in, par_stmt, Block, empty, stmt}
 use Rattle.toy_imp.specs.declared.block.StmtNode.{StmtNode}
-use Rattle.toy_imp.specs.declared.block.StmtNode.TheVariants.{Skip, Put, If, While, For, Let, Par}
+use Rattle.toy_imp.specs.declared.block.StmtNode.TheVariants.{Skip, Put, Assert, If, While, For, Let, Par}
 
 abbrev pub block_of : List Stmt → Block
 block_of [] = empty
@@ -13,6 +13,7 @@ block_of (s ∷ ss) = stmt s (block_of ss)
 abbrev pub stmt_of : StmtNode → Stmt
 stmt_of Skip = skip
 stmt_of (Put x is e) = put x (exprs_of is) e
+stmt_of (Assert t) = assert_that t
 stmt_of (If t b c) = if_then t b c
 stmt_of (While t b) = while_do t b
 stmt_of (For x lo hi b) = for_to x lo hi b

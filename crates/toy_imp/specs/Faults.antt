@@ -13,7 +13,7 @@ use Rattle.toy_imp.specs.declared.rule.CutList.TheVariants as cuts
 use Rattle.toy_imp.specs.declared.rule.Method.{Method}
 use Rattle.toy_imp.specs.declared.rule.Method.TheVariants as method
 use Rattle.toy_imp.specs.declared.rule.Rule.{Rule}
-use Rattle.toy_imp.specs.Block.{Stmt, skip, put, if_then, while_do, for_to, let_in, par_stmt, Block, empty, stmt}
+use Rattle.toy_imp.specs.Block.{Stmt, skip, put, assert_that, if_then, while_do, for_to, let_in, par_stmt, Block, empty, stmt}
 use Rattle.toy_imp.specs.Points.{point_count}
 use Rattle.toy_imp.specs.Uses.{Use, own_name, parameter, block_any}
 
@@ -35,6 +35,7 @@ condition_numbers (condition.Commutes s t) = s ∷ t ∷ []
 condition_numbers (condition.Positive e) = e ∷ []
 condition_numbers (condition.Constant e) = e ∷ []
 condition_numbers (condition.Distinct x y) = x ∷ y ∷ []
+condition_numbers (condition.Quiet s) = s ∷ []
 condition_numbers (condition.Swaps s t names region) = s ∷ t ∷ names
 
 abbrev pub uses_undeclared : Rule → Bool
@@ -68,6 +69,7 @@ has_condition_kinds ps (condition.Commutes s t) = has_kind ps kind.Stmt s && has
 has_condition_kinds ps (condition.Positive e) = has_kind ps kind.Expr e
 has_condition_kinds ps (condition.Constant e) = has_kind ps kind.Expr e
 has_condition_kinds ps (condition.Distinct x y) = has_kind ps kind.Name x && has_kind ps kind.Name y
+has_condition_kinds ps (condition.Quiet s) = has_kind ps kind.Stmt s
 has_condition_kinds ps (condition.Swaps s t names region) = has_kind ps kind.Stmt s && (has_kind ps kind.Stmt t && list_all (has_kind ps kind.Name) names)
 
 abbrev pub misplaces_parameter : Rule → Bool
@@ -97,6 +99,7 @@ abbrev mutual
   pub stmt_has_scope : Stmt → Bool
   stmt_has_scope skip = false
   stmt_has_scope (put x is e) = false
+  stmt_has_scope (assert_that t) = false
   stmt_has_scope (if_then t b c) = has_scope b || has_scope c
   stmt_has_scope (while_do t b) = has_scope b
   stmt_has_scope (for_to x lo hi b) = true

@@ -8,7 +8,7 @@ use Rattle.toy_imp.specs.declared.instance.Filling.TheVariants as filling
 use Rattle.toy_imp.specs.declared.instance.Instance.{Instance}
 use Rattle.toy_imp.specs.Expr.{Expr, num, at, add, sub, mul, par_expr, Exprs, no_exprs, expr}
 use Rattle.toy_imp.specs.Test.{Test, less, less_eq, equal, not_of, and_of, or_of, par_test}
-use Rattle.toy_imp.specs.Block.{Stmt, skip, put, if_then, while_do, for_to, let_in, par_stmt, Block, empty, stmt, append}
+use Rattle.toy_imp.specs.Block.{Stmt, skip, put, assert_that, if_then, while_do, for_to, let_in, par_stmt, Block, empty, stmt, append}
 
 -- what stands for a parameter of each kind, by the filling at its number
 abbrev pub name_by : ℕ → Option Filling → Name
@@ -82,6 +82,7 @@ unfoldable mutual
   pub fill_stmt : Instance → Stmt → Block → Block
   fill_stmt i skip rest = stmt skip rest
   fill_stmt i (put x is e) rest = stmt (put (fill_name i x) (fill_exprs i is) (fill_expr i e)) rest
+  fill_stmt i (assert_that t) rest = stmt (assert_that (fill_test i t)) rest
   fill_stmt i (if_then t b c) rest = stmt (if_then (fill_test i t) (fill i b) (fill i c)) rest
   fill_stmt i (while_do t b) rest = stmt (while_do (fill_test i t) (fill i b)) rest
   fill_stmt i (for_to x lo hi b) rest = stmt (for_to (fill_name i x) (fill_expr i lo) (fill_expr i hi) (fill i b)) rest

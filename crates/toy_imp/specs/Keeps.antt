@@ -1,15 +1,15 @@
--- What the conditions on one statement or expression mean: it keeps a value, ignores a name, is positive, is constant.
--- They speak of runs that end; whether a block ends is said by none of them.
+-- What the conditions on statements and expressions mean: keeping a value, ignoring a name, commuting, being positive, being constant.
+-- They speak of runs that end; whether a block ends is said by none of them, and whether it halts by `commutes` alone.
 use Rattle.std.specs.Prelude.{◌≡◌, ℤ, pos, List, ◌≤ℤ◌}
 use Rattle.toy_imp.specs.declared.name.Name.{Name}
 use Rattle.toy_imp.specs.Cell.{spelled, variable}
 use Rattle.toy_imp.specs.Store.{Store, read, write}
 use Rattle.toy_imp.specs.Value.{value}
 use Rattle.toy_imp.specs.Truth.{truth}
-use Rattle.toy_imp.specs.Ends.{Ends}
+use Rattle.toy_imp.specs.Ends.{Ends, EndAlike, IsQuiet}
 use Rattle.toy_imp.specs.Expr.{Expr}
 use Rattle.toy_imp.specs.Test.{Test}
-use Rattle.toy_imp.specs.Block.{Block}
+use Rattle.toy_imp.specs.Block.{Block, append}
 
 -- each run of the block that ends leaves the value of the expression
 pub record KeepsExpr (b : Block) (e : Expr) : Type 0 where
@@ -35,6 +35,12 @@ pub record TestIgnores (q : Test) (x : Name) : Type 0 where
 pub record StmtIgnores (b : Block) (x : Name) : Type 0 where
   pub to : (at : List ℤ) (v : ℤ) (s u : Store) → Ends b (write s (spelled x, at) v) u → (t : Store) × Ends b s t × (u ≡ write t (spelled x, at) v)
   pub back : (at : List ℤ) (v : ℤ) (s t : Store) → Ends b s t → Ends b (write s (spelled x, at) v) (write t (spelled x, at) v)
+
+-- two blocks that halt from no store, and one after the other end alike in both orders
+pub record StmtsCommute (b c : Block) : Type 0 where
+  pub first_quiet : IsQuiet b
+  pub second_quiet : IsQuiet c
+  pub alike : EndAlike (append b c) (append c b)
 
 -- at least 1 in every store
 pub record IsPositive (e : Expr) : Type 0 where

@@ -9,10 +9,9 @@ use Rattle.toy_imp.specs.declared.instance.Filling.{Filling}
 use Rattle.toy_imp.specs.declared.instance.Filling.TheVariants as filling
 use Rattle.toy_imp.specs.declared.instance.Instance.{Instance}
 use Rattle.toy_imp.specs.Cell.{spelled}
-use Rattle.toy_imp.specs.Ends.{Same}
-use Rattle.toy_imp.specs.Keeps.{KeepsExpr, KeepsTest, KeepsName, ExprIgnores, TestIgnores, StmtIgnores, IsPositive, IsConstant}
+use Rattle.toy_imp.specs.Ends.{IsQuiet}
+use Rattle.toy_imp.specs.Keeps.{KeepsExpr, KeepsTest, KeepsName, ExprIgnores, TestIgnores, StmtIgnores, StmtsCommute, IsPositive, IsConstant}
 use Rattle.toy_imp.specs.Swaps.{SwapsOver}
-use Rattle.toy_imp.specs.Block.{append}
 
 -- `keeps`: a statement, and an expression, a test or a name
 abbrev pub Keeps : Option Filling → Option Filling → Type 0
@@ -28,9 +27,9 @@ Ignores (Some (filling.Test q)) (Some (filling.Name x)) = TestIgnores q x
 Ignores (Some (filling.Stmt b)) (Some (filling.Name x)) = StmtIgnores b x
 Ignores _ _ = ⊥
 
--- `commutes`: two statements, one after the other, end alike in both orders
+-- `commutes`: two statements that halt from no store, and one after the other end alike in both orders
 abbrev pub Commutes : Option Filling → Option Filling → Type 0
-Commutes (Some (filling.Stmt b)) (Some (filling.Stmt c)) = Same (append b c) (append c b)
+Commutes (Some (filling.Stmt b)) (Some (filling.Stmt c)) = StmtsCommute b c
 Commutes _ _ = ⊥
 
 abbrev pub Positive : Option Filling → Type 0
@@ -45,6 +44,11 @@ Constant _ = ⊥
 abbrev pub Distinct : Option Filling → Option Filling → Type 0
 Distinct (Some (filling.Name x)) (Some (filling.Name y)) = spelled x ≢ spelled y
 Distinct _ _ = ⊥
+
+-- `quiet`: a statement that halts from no store
+abbrev pub Quiet : Option Filling → Type 0
+Quiet (Some (filling.Stmt b)) = IsQuiet b
+Quiet _ = ⊥
 
 -- the numbers stand for these names, one for one
 abbrev pub Named : Instance → List ℕ → List Name → Type 0
@@ -70,6 +74,7 @@ Meets i (condition.Commutes k l) = Commutes (slice_get i.fillings k) (slice_get 
 Meets i (condition.Positive k) = Positive (slice_get i.fillings k)
 Meets i (condition.Constant k) = Constant (slice_get i.fillings k)
 Meets i (condition.Distinct x y) = Distinct (slice_get i.fillings x) (slice_get i.fillings y)
+Meets i (condition.Quiet k) = Quiet (slice_get i.fillings k)
 Meets i (condition.Swaps k l ks region) = SwapsNamed i (slice_get i.fillings k) (slice_get i.fillings l) ks region
 
 abbrev pub MeetsAll : Instance → List Condition → Type 0

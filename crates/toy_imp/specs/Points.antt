@@ -1,7 +1,7 @@
 -- The points of a side, in the words of program locations: its start, each statement parameter and each `while`, its exit.
 -- A point is before its statement. Cut points, after Floyd, are chosen among them.
 use Rattle.std.specs.Prelude.{ℕ, suc, ◌+◌, List, [], ◌∷◌, ◌++◌, map}
-use Rattle.toy_imp.specs.Block.{Stmt, skip, put, if_then, while_do, for_to, let_in, par_stmt, Block, empty, stmt}
+use Rattle.toy_imp.specs.Block.{Stmt, skip, put, assert_that, if_then, while_do, for_to, let_in, par_stmt, Block, empty, stmt}
 
 -- A place in a block: the position of a statement, then which block of it, then a position in that, and so on.
 -- The first block of a statement has the number 0, the second of an `if` the number 1.
@@ -14,6 +14,7 @@ abbrev mutual
   pub stmt_points : Stmt → List Place
   stmt_points skip = []
   stmt_points (put x is e) = []
+  stmt_points (assert_that t) = []
   stmt_points (if_then t b c) = map (λ place. 0 ∷ place) (points_from 0 b) ++ map (λ place. 1 ∷ place) (points_from 0 c)
   stmt_points (while_do t b) = [] ∷ map (λ place. 0 ∷ place) (points_from 0 b)
   stmt_points (for_to x lo hi b) = map (λ place. 0 ∷ place) (points_from 0 b)
@@ -33,6 +34,7 @@ abbrev mutual
   pub stmt_count : Stmt → ℕ
   stmt_count skip = 0
   stmt_count (put x is e) = 0
+  stmt_count (assert_that t) = 0
   stmt_count (if_then t b c) = point_count b + point_count c
   stmt_count (while_do t b) = suc (point_count b)
   stmt_count (for_to x lo hi b) = point_count b

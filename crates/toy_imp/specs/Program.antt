@@ -5,7 +5,7 @@ use Rattle.toy_imp.specs.declared.name.Name.{Name}
 use Rattle.toy_imp.specs.declared.name.Name.TheVariants.{Own, Par}
 use Rattle.toy_imp.specs.Expr.{Expr, num, at, add, sub, mul, par_expr, Exprs, no_exprs, expr}
 use Rattle.toy_imp.specs.Test.{Test, less, less_eq, equal, not_of, and_of, or_of, par_test}
-use Rattle.toy_imp.specs.Block.{Stmt, skip, put, if_then, while_do, for_to, let_in, par_stmt, Block, empty, stmt}
+use Rattle.toy_imp.specs.Block.{Stmt, skip, put, assert_that, if_then, while_do, for_to, let_in, par_stmt, Block, empty, stmt}
 
 abbrev pub is_own : Name → Bool
 is_own (Own bytes) = true
@@ -37,6 +37,7 @@ abbrev mutual
   pub is_closed_stmt : Stmt → Bool
   is_closed_stmt skip = true
   is_closed_stmt (put x is e) = is_own x && (are_closed is && is_closed e)
+  is_closed_stmt (assert_that t) = is_closed_test t
   is_closed_stmt (if_then t b c) = is_closed_test t && (is_program b && is_program c)
   is_closed_stmt (while_do t b) = is_closed_test t && is_program b
   is_closed_stmt (for_to x lo hi b) = is_own x && (is_closed lo && (is_closed hi && is_program b))

@@ -20,7 +20,7 @@ pub record Declaration : Type 0 where
   pub first : List ℕ
   pub others : List (List ℕ)
 
--- cond : "keeps" ID ID | "ignores" ID ID | "commutes" ID ID | "positive" ID | "constant" ID | "distinct" ID ID
+-- cond : "keeps" ID ID | "ignores" ID ID | "commutes" ID ID | "positive" ID | "constant" ID | "distinct" ID ID | "quiet" ID
 --      | "swaps" ID ID "over" ID region | "swaps" ID ID "over" ID "," ID region
 pub data ConditionTree : Type 0 where
   keeps : List ℕ → List ℕ → ConditionTree
@@ -29,6 +29,7 @@ pub data ConditionTree : Type 0 where
   positive : List ℕ → ConditionTree
   constant : List ℕ → ConditionTree
   distinct : List ℕ → List ℕ → ConditionTree
+  quiet : List ℕ → ConditionTree
   swaps_over_1 : List ℕ → List ℕ → List ℕ → Region → ConditionTree
   swaps_over_2 : List ℕ → List ℕ → List ℕ → List ℕ → Region → ConditionTree
 
@@ -67,6 +68,7 @@ condition_value ps (commutes x y) = condition.Commutes (number_of ps x) (number_
 condition_value ps (positive x) = condition.Positive (number_of ps x)
 condition_value ps (constant x) = condition.Constant (number_of ps x)
 condition_value ps (distinct x y) = condition.Distinct (number_of ps x) (number_of ps y)
+condition_value ps (quiet x) = condition.Quiet (number_of ps x)
 condition_value ps (swaps_over_1 x y k region) = condition.Swaps (number_of ps x) (number_of ps y) (number_of ps k ∷ []) region
 condition_value ps (swaps_over_2 x y k l region) = condition.Swaps (number_of ps x) (number_of ps y) (number_of ps k ∷ number_of ps l ∷ []) region
 

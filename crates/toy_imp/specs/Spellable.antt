@@ -9,7 +9,7 @@ use Rattle.toy_imp.specs.declared.param.Kind.TheVariants as kind
 use Rattle.toy_imp.specs.declared.param.Param.{Param}
 use Rattle.toy_imp.specs.Expr.{Expr, num, at, add, sub, mul, par_expr, Exprs, no_exprs, expr}
 use Rattle.toy_imp.specs.Test.{Test, less, less_eq, equal, not_of, and_of, or_of, par_test}
-use Rattle.toy_imp.specs.Block.{Stmt, skip, put, if_then, while_do, for_to, let_in, par_stmt, Block, empty, stmt}
+use Rattle.toy_imp.specs.Block.{Stmt, skip, put, assert_that, if_then, while_do, for_to, let_in, par_stmt, Block, empty, stmt}
 use Rattle.toy_imp.specs.Parameters.{number_of, kind_of}
 use Rattle.toy_imp.specs.Uses.{Use, own_name, parameter}
 use Rattle.toy_imp.specs.ExprCanonical.{declared_name, written_name}
@@ -61,6 +61,7 @@ abbrev mutual
   pub is_spellable_stmt : List Param → Stmt → Bool
   is_spellable_stmt ps skip = true
   is_spellable_stmt ps (put x es e) = is_spellable_name ps x && (are_spellable_indices ps es && is_spellable ps e)
+  is_spellable_stmt ps (assert_that t) = is_spellable_test ps t
   is_spellable_stmt ps (if_then t b c) = is_spellable_test ps t && (is_spellable_block ps b && is_spellable_block ps c)
   is_spellable_stmt ps (while_do t b) = is_spellable_test ps t && is_spellable_block ps b
   is_spellable_stmt ps (for_to x lo hi b) = is_spellable_name ps x && (is_spellable ps lo && (is_spellable ps hi && is_spellable_block ps b))

@@ -1,11 +1,11 @@
--- What the condition `swaps` means: two blocks, each with the counters set to a tuple, end alike in both orders.
+-- What the condition `swaps` means: two blocks halt from no store, and each with the counters set to a tuple end alike in both orders.
 -- This holds for all tuples of a region, and whatever other names are set round either block.
 use Rattle.std.specs.Prelude.{◌≡◌, ◌≢◌, ◌⊎◌, ℤ, List, [], ◌∷◌, length, All, ◌<ℤ◌}
 use Rattle.toy_imp.specs.declared.name.Name.{Name}
 use Rattle.toy_imp.specs.declared.condition.Region.{Region}
 use Rattle.toy_imp.specs.declared.condition.Region.TheVariants as region
 use Rattle.toy_imp.specs.Cell.{spelled}
-use Rattle.toy_imp.specs.Ends.{Same}
+use Rattle.toy_imp.specs.Ends.{EndAlike, IsQuiet}
 use Rattle.toy_imp.specs.Expr.{num}
 use Rattle.toy_imp.specs.Block.{let_in, Block, empty, stmt, append}
 
@@ -43,4 +43,6 @@ abbrev pub turn : (counters : List Name) → Outer counters → List ℤ → Blo
 turn counters o a b = set_round o.names o.numbers (set_round counters a b)
 
 pub record SwapsOver (b c : Block) (counters : List Name) (region : Region) : Type 0 where
-  pub same : (x y : List ℤ) → length x ≡ length counters → length y ≡ length counters → IsWithin region x y → (o u : Outer counters) → Same (append (turn counters o x b) (turn counters u y c)) (append (turn counters u y c) (turn counters o x b))
+  pub first_quiet : IsQuiet b
+  pub second_quiet : IsQuiet c
+  pub alike : (x y : List ℤ) → length x ≡ length counters → length y ≡ length counters → IsWithin region x y → (o u : Outer counters) → EndAlike (append (turn counters o x b) (turn counters u y c)) (append (turn counters u y c) (turn counters o x b))

@@ -7,7 +7,7 @@ use Rattle.toy_imp.specs.declared.param.Kind.{Kind}
 use Rattle.toy_imp.specs.declared.param.Kind.TheVariants as kind
 use Rattle.toy_imp.specs.Expr.{Expr, num, at, add, sub, mul, par_expr, Exprs, no_exprs, expr}
 use Rattle.toy_imp.specs.Test.{Test, less, less_eq, equal, not_of, and_of, or_of, par_test}
-use Rattle.toy_imp.specs.Block.{Stmt, skip, put, if_then, while_do, for_to, let_in, par_stmt, Block, empty, stmt}
+use Rattle.toy_imp.specs.Block.{Stmt, skip, put, assert_that, if_then, while_do, for_to, let_in, par_stmt, Block, empty, stmt}
 
 -- a name that is no parameter, or the number of a parameter where this kind is wanted
 pub data Use : Type 0 where
@@ -45,6 +45,7 @@ abbrev mutual
   pub stmt_any : (Use → Bool) → Stmt → Bool
   stmt_any test skip = false
   stmt_any test (put x is e) = test (name_use x) || (exprs_any test is || expr_any test e)
+  stmt_any test (assert_that t) = test_any test t
   stmt_any test (if_then t b c) = test_any test t || (block_any test b || block_any test c)
   stmt_any test (while_do t b) = test_any test t || block_any test b
   stmt_any test (for_to x lo hi b) = test (name_use x) || (expr_any test lo || (expr_any test hi || block_any test b))

@@ -1,4 +1,4 @@
--- A rule is valid where each instance that fits it and meets its conditions ends alike on both sides.
+-- A rule is valid where for each instance that fits it and meets its conditions both sides end alike and halt alike.
 -- That is: from every store, in the same stores, the left side exactly where the right side does.
 use Rattle.std.specs.Prelude.{◌≡◌, true}
 use Rattle.toy_imp.specs.declared.rule.Rule.{Rule}

@@ -2,7 +2,7 @@
 //! A contract sees both as the plain trees of `specs/Block.antt`; what they do is in `specs/Run.antt`.
 
 ghost use Rattle.std.specs.Prelude.{◌≡◌, IfOk, OnOk, OnErr};
-ghost use Rattle.toy_imp.specs.Block.{skip, put, if_then, while_do, for_to, let_in, par_stmt, empty, stmt, append};
+ghost use Rattle.toy_imp.specs.Block.{skip, put, assert_that, if_then, while_do, for_to, let_in, par_stmt, empty, stmt, append};
 ghost use Rattle.toy_imp.specs.ExprView.{exprs_of};
 ghost use Rattle.toy_imp.specs.Program.{is_closed_stmt, is_program};
 
@@ -35,6 +35,8 @@ pub enum StmtNode {
     Skip,
     /// The cell's name, its indices, and the expression that is written into it.
     Put(Name, Items<Expr>, Expr),
+    /// The test that has to be true for the run to go on.
+    Assert(Test),
     /// The test, the block where it is true and the block where it is not.
     If(Test, Block, Block),
     While(Test, Block),
@@ -152,6 +154,15 @@ impl Stmt {
         }
     }
 
+    /// `assert t;`
+    pub fn assert_that(t: Test) -> Stmt
+        ensures { result ≡ assert_that t }
+    {
+        Stmt {
+            node: StmtNode::Assert(t),
+        }
+    }
+
     /// `if t { b } else { c }`
     pub fn if_then(t: Test, b: Block, c: Block) -> Stmt
         ensures { result ≡ if_then t b c }
@@ -205,6 +216,7 @@ impl Stmt {
         match &self.node {
             StmtNode::Skip => Ok(Stmt::skip()),
             StmtNode::Put(x, indices, e) => copy_put(alloc, x, indices.as_slice(), e),
+            StmtNode::Assert(t) => copy_assert(alloc, t),
             StmtNode::If(t, b, c) => {
                 let b = b.copy(alloc)?;
                 let c = c.copy(alloc)?;
@@ -236,6 +248,7 @@ impl Stmt {
             StmtNode::Put(x, indices, e) => {
                 x.is_own() && are_closed(indices.as_slice()) && e.is_closed()
             }
+            StmtNode::Assert(t) => t.is_closed(),
             StmtNode::If(t, b, c) => t.is_closed() && b.is_program() && c.is_program(),
             StmtNode::While(t, b) => t.is_closed() && b.is_program(),
             StmtNode::For(x, low, high, b) => {
@@ -256,6 +269,13 @@ fn copy_put(alloc: Global, x: &Name, indices: &[Expr], e: &Expr) -> Result<Stmt,
     let indices = copy_all(alloc, indices)?;
     let e = e.copy(alloc)?;
     Ok(Stmt::put(x, indices, e))
+}
+
+fn copy_assert(alloc: Global, t: &Test) -> Result<Stmt, NoMemory>
+    ensures { IfOk result (λ s. s ≡ assert_that t.now) }
+{
+    let t = t.copy(alloc)?;
+    Ok(Stmt::assert_that(t))
 }
 
 fn copy_if(alloc: Global, t: &Test, b: Block, c: Block) -> Result<Stmt, NoMemory>

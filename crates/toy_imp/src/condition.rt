@@ -25,7 +25,7 @@ pub enum Condition {
     Keeps(u32, u32),
     /// An expression, a test or a statement has nothing to do with the cells of a name.
     Ignores(u32, u32),
-    /// Two statements end alike in both orders.
+    /// Two statements halt from no store, and end alike in both orders.
     Commutes(u32, u32),
     /// An expression is at least 1 in every store.
     Positive(u32),
@@ -33,7 +33,9 @@ pub enum Condition {
     Constant(u32),
     /// Two names differ.
     Distinct(u32, u32),
-    /// Two statements, with the listed names set to tuples of the region, end alike in both orders.
+    /// A statement halts from no store.
+    Quiet(u32),
+    /// Two statements halt from no store, and with the listed names set to tuples of the region end alike in both orders.
     /// A well formed rule lists one or two names, and two for `Crossing`.
     Swaps(u32, u32, Items<u32>, Region),
 }
@@ -50,6 +52,7 @@ impl Condition {
             Condition::Positive(e) => Ok(Condition::Positive(*e)),
             Condition::Constant(e) => Ok(Condition::Constant(*e)),
             Condition::Distinct(x, y) => Ok(Condition::Distinct(*x, *y)),
+            Condition::Quiet(s) => Ok(Condition::Quiet(*s)),
             Condition::Swaps(s, t, over, region) => {
                 let over = Items::from_slice(alloc, over.as_slice())?;
                 Ok(Condition::Swaps(*s, *t, over, *region))

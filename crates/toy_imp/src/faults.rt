@@ -118,6 +118,7 @@ fn cites(c: &Condition, count: usize) -> bool
         Condition::Positive(e) => count <= *e as usize,
         Condition::Constant(e) => count <= *e as usize,
         Condition::Distinct(x, y) => count <= *x as usize || count <= *y as usize,
+        Condition::Quiet(s) => count <= *s as usize,
         Condition::Swaps(s, t, names, _) => {
             count <= *s as usize || count <= *t as usize || some_reach(names.as_slice(), count)
         }
@@ -172,6 +173,7 @@ fn has_condition_kinds(params: &[Param], c: &Condition) -> bool
         Condition::Distinct(x, y) => {
             has_kind(params, Kind::Name, *x) && has_kind(params, Kind::Name, *y)
         }
+        Condition::Quiet(s) => has_kind(params, Kind::Stmt, *s),
         Condition::Swaps(s, t, names, _) => {
             has_kind(params, Kind::Stmt, *s)
                 && has_kind(params, Kind::Stmt, *t)
@@ -244,7 +246,7 @@ fn stmt_has_scope(s: &Stmt) -> bool
         StmtNode::If(_, b, c) => has_scope(b) || has_scope(c),
         StmtNode::While(_, b) => has_scope(b),
         StmtNode::For(_, _, _, _) | StmtNode::Let(_, _, _) => true,
-        StmtNode::Skip | StmtNode::Put(_, _, _) | StmtNode::Par(_) => false,
+        StmtNode::Skip | StmtNode::Put(_, _, _) | StmtNode::Assert(_) | StmtNode::Par(_) => false,
     }
 }
 

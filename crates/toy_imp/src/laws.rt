@@ -4,7 +4,7 @@
 
 ghost use Rattle.toy_imp.specs.CanonicalLaws.{CanonicalExprReadsBack, CanonicalTestReadsBack, CanonicalBlockReadsBack, ReadExprIsSpellable, ReadTestIsSpellable, ReadBlockIsSpellable};
 ghost use Rattle.toy_imp.specs.NumberLaws.{ProductCommutes, ProductAssociates, ProductOfSum, SumTimes, ProductOfDifference, DifferenceTimes};
-ghost use Rattle.toy_imp.specs.RunLaws.{WorkSplits, WorkJoins, OneFinalStore, SkipIsNothing, SkipDrops, EmptyIsNothing, LaterReplaced, FrontReplaced, PartsReplaced, OpenNeverEnds};
+ghost use Rattle.toy_imp.specs.RunLaws.{WorkSplits, WorkJoins, OneOutcome, SkipIsNothing, SkipDrops, EmptyIsNothing, LaterReplaced, FrontReplaced, PartsReplaced, OpenNeverEnds, QuietIsSame, QuietTogether};
 ghost use Rattle.toy_imp.specs.StoreLaws.{WriteIsRead, WriteKeepsOthers, AgreeingIsEqual};
 
 /// A cell holds what was written into it.
@@ -22,22 +22,23 @@ pub fn agreeing_is_equal()
     ensures { AgreeingIsEqual }
 {}
 
-/// The steps that do two lists of work are steps that do the first and then steps that do the second.
+/// The steps that do two lists of work are steps that do the first and then steps that do the second, or the first
+/// halts in them.
 pub fn work_splits()
     ensures { WorkSplits }
 {}
 
-/// Steps that do one list of work and then another do both.
+/// Steps that do one list of work and then another do both, and steps in which the first halts halt.
 pub fn work_joins()
     ensures { WorkJoins }
 {}
 
-/// From a store, work reaches at most one final store.
-pub fn one_final_store()
-    ensures { OneFinalStore }
+/// From a store, work ends or halts at most one way, in one store.
+pub fn one_outcome()
+    ensures { OneOutcome }
 {}
 
-/// A parameter that stands for no statement never ends.
+/// A parameter that stands for no statement never ends and never halts.
 pub fn open_never_ends()
     ensures { OpenNeverEnds }
 {}
@@ -57,7 +58,7 @@ pub fn empty_is_nothing()
     ensures { EmptyIsNothing }
 {}
 
-/// Work that is done later may be replaced by work that ends alike.
+/// Work that is done later may be replaced by work that ends and halts alike.
 pub fn later_replaced()
     ensures { LaterReplaced }
 {}
@@ -70,6 +71,16 @@ pub fn front_replaced()
 /// Both parts of a block may be replaced by blocks that are the same.
 pub fn parts_replaced()
     ensures { PartsReplaced }
+{}
+
+/// Blocks that halt from no store and end alike are the same.
+pub fn quiet_is_same()
+    ensures { QuietIsSame }
+{}
+
+/// Two blocks that halt from no store, one after the other, halt from no store.
+pub fn quiet_together()
+    ensures { QuietTogether }
 {}
 
 /// The order of two factors does not matter.

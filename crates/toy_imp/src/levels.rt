@@ -40,6 +40,7 @@ pub fn stmt_levels(s: &Stmt) -> u64
         StmtNode::Put(_, indices, e) => {
             indices_levels(indices.as_slice()).max(expr_levels(e, ExprForm::Expr))
         }
+        StmtNode::Assert(t) => test_levels(t, TestForm::Test),
         StmtNode::If(t, b, c) => {
             let blocks = block_levels(b).max(block_levels(c));
             test_levels(t, TestForm::Test).max(inside(blocks))

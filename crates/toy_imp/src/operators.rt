@@ -41,6 +41,7 @@ pub fn stmt_operators(s: &Stmt) -> u64
             let index = written_operators(indices.as_slice());
             index.max(expr_operators(e))
         }
+        StmtNode::Assert(t) => test_operators(t),
         StmtNode::If(t, b, c) => {
             let blocks = block_operators(b).max(block_operators(c));
             test_operators(t).max(blocks)

@@ -26,6 +26,7 @@ fn stmt_points(s: &Stmt) -> u64
     match &s.node {
         StmtNode::Skip => 0,
         StmtNode::Put(_, _, _) => 0,
+        StmtNode::Assert(_) => 0,
         StmtNode::If(_, b, c) => block_points(b).saturating_add(block_points(c)),
         StmtNode::While(_, b) => block_points(b).saturating_add(1),
         StmtNode::For(_, _, _, b) => block_points(b),

@@ -123,6 +123,7 @@ fn stmt_any(question: Question, s: &Stmt) -> bool
         StmtNode::Put(x, indices, e) => {
             question.at_name(x) || exprs_any(question, indices.as_slice()) || expr_any(question, e)
         }
+        StmtNode::Assert(t) => test_any(question, t),
         StmtNode::If(t, b, c) => {
             test_any(question, t) || block_any(question, b) || block_any(question, c)
         }

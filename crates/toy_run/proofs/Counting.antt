@@ -2,11 +2,11 @@
 use Rattle.std.specs.Prelude.{◌≡◌, ℕ, zero, suc, ◌+◌, List, [], ◌∷◌, Some, None, refl}
 use Rattle.std.proofs.Common.{sym, ◌∙◌, ap, ap₂, subst, arith, below_more, add-one}
 use Rattle.toy_imp.specs.Store.{Store}
-use Rattle.toy_imp.specs.Run.{Item, step, run}
+use Rattle.toy_imp.specs.Run.{Item, Done, act, turns, restore, halt, step, Outcome, ended, halted, run}
 use Rattle.toy_run.specs.declared.step.Width.{Width}
 use Rattle.toy_run.specs.declared.step.Width.TheVariants.{Narrow, Wide}
 use Rattle.toy_run.specs.Narrow.{NarrowItem}
-use Rattle.toy_run.specs.Steps.{after, NarrowNext, WideNext, NarrowUpTo, WideAt, EndsAt}
+use Rattle.toy_run.specs.Steps.{after, NarrowNext, WideNext, NarrowUpTo, WideAt, ComesOutAt}
 use Rattle.toy_run.specs.Does.{Does}
 
 -- ---- one step more
@@ -17,19 +17,55 @@ after-more zero (i ∷ w) s item rest e = let one : i ≡ item = cc in let two :
 after-more (suc n) [] s item rest e = cc
 after-more (suc n) (i ∷ w) s item rest e = after-more n _ _ item rest e
 
-pub run_ended : (n : ℕ) (work : List Item) (s : Store) → (after n work s).work ≡ [] → run n work s ≡ Some ((after n work s).store)
-unfolding after run
+-- a run that has halted stays so
+halt_stays : (n : ℕ) (work : List Item) (s : Store) → after n (halt ∷ work) s ≡ record { store = s; work = halt ∷ work }
+unfolding after step
+halt_stays zero work s = refl
+halt_stays (suc n) work s = halt_stays n work s
+
+no_more : {A : Type 0} (n : ℕ) (work : List Item) (s : Store) → (after n (halt ∷ work) s).work ≡ [] → A
+no_more n work s e = let clash : halt ∷ work ≡ [] = sym (ap (λ (d : Done). d.work) (halt_stays n work s)) ∙ e in cc
+
+first_of_list : Item → List Item → Item
+first_of_list d [] = d
+first_of_list d (i ∷ w) = i
+
+pub run_ended : (n : ℕ) (work : List Item) (s : Store) → (after n work s).work ≡ [] → run n work s ≡ Some (ended ((after n work s).store))
+unfolding after run step
 run_ended zero [] s e = refl
 run_ended zero (i ∷ w) s e = cc
 run_ended (suc n) [] s e = refl
+run_ended (suc n) (halt ∷ w) s e = no_more n w s e
 run_ended (suc n) (i ∷ w) s e = run_ended n _ _ e
 
-pub run_open : (n : ℕ) (work : List Item) (s : Store) (item : Item) (rest : List Item) → (after n work s).work ≡ item ∷ rest → run n work s ≡ None
-unfolding after run
-run_open zero [] s item rest e = cc
-run_open zero (i ∷ w) s item rest e = refl
-run_open (suc n) [] s item rest e = cc
-run_open (suc n) (i ∷ w) s item rest e = run_open n _ _ item rest e
+pub run_halted : (n : ℕ) (work : List Item) (s : Store) (rest : List Item) → (after n work s).work ≡ halt ∷ rest → run n work s ≡ Some (halted ((after n work s).store))
+unfolding after run step
+run_halted zero [] s rest e = cc
+run_halted zero (halt ∷ w) s rest e = refl
+run_halted zero (i ∷ w) s rest e = cc
+run_halted (suc n) [] s rest e = cc
+run_halted (suc n) (halt ∷ w) s rest e = ap (λ (d : Done). Some (halted d.store)) (sym (halt_stays n w s))
+run_halted (suc n) (i ∷ w) s rest e = run_halted n _ _ rest e
+
+-- an item that is to be done, and not to halt
+abbrev pub IsToDo : Item → Type 0
+IsToDo halt = ⊥
+IsToDo _ = Unit {0}
+
+still_halted : {A : Type 0} (n : ℕ) (work : List Item) (s : Store) (item : Item) (rest : List Item) → IsToDo item → (after n (halt ∷ work) s).work ≡ item ∷ rest → A
+unfolding first_of_list
+still_halted n work s item rest to_do e =
+    let same : halt ∷ work ≡ item ∷ rest = sym (ap (λ (d : Done). d.work) (halt_stays n work s)) ∙ e in
+    absurd (subst IsToDo (sym (ap (first_of_list item) same)) to_do)
+
+pub run_open : (n : ℕ) (work : List Item) (s : Store) (item : Item) (rest : List Item) → IsToDo item → (after n work s).work ≡ item ∷ rest → run n work s ≡ None
+unfolding after run step
+run_open zero [] s item rest to_do e = cc
+run_open zero (halt ∷ w) s item rest to_do e = still_halted zero w s item rest to_do e
+run_open zero (i ∷ w) s item rest to_do e = refl
+run_open (suc n) [] s item rest to_do e = cc
+run_open (suc n) (halt ∷ w) s item rest to_do e = still_halted n w s item rest to_do e
+run_open (suc n) (i ∷ w) s item rest to_do e = run_open n _ _ item rest to_do e
 
 -- ---- the machine after n narrow steps, with this store and this work left
 pub record Stands (n : ℕ) (work : List Item) (s : Store) (t : Store) (left : List Item) : Type 0 where
@@ -41,22 +77,25 @@ pub at_first : (work : List Item) (s : Store) → Stands 0 work s s work
 unfolding after
 at_first work s = record { narrow = λ k h. absurd (omega arith); holds = refl; remains = refl }
 
-narrow_next : (left : List Item) (t : Store) (item : Item) (rest : List Item) (u : Store) → left ≡ item ∷ rest → t ≡ u → NarrowItem item u → NarrowNext left t
-narrow_next [] t item rest u e p h = cc
-narrow_next (i ∷ w) t item rest u e p h = let one : item ≡ i = cc in subst (λ j. NarrowItem j t) one (subst (λ v. NarrowItem item v) (sym p) h)
+narrow_next : (left : List Item) (t : Store) (item : Item) (rest : List Item) (u : Store) → IsToDo item → left ≡ item ∷ rest → t ≡ u → NarrowItem item u → NarrowNext left t
+narrow_next [] t item rest u to_do e p h = cc
+narrow_next (halt ∷ w) t item rest u to_do e p h = absurd (subst IsToDo (sym (ap (first_of_list item) e)) to_do)
+narrow_next (i ∷ w) t item rest u to_do e p h = let one : item ≡ i = cc in subst (λ j. NarrowItem j t) one (subst (λ v. NarrowItem item v) (sym p) h)
 
-wide_next : (left : List Item) (t : Store) (item : Item) (rest : List Item) (u : Store) → left ≡ item ∷ rest → t ≡ u → ¬ (NarrowItem item u) → WideNext left t
-wide_next [] t item rest u e p h = cc
-wide_next (i ∷ w) t item rest u e p h = let one : i ≡ item = cc in λ n. h (subst (λ v. NarrowItem item v) p (subst (λ j. NarrowItem j t) one n))
+wide_next : (left : List Item) (t : Store) (item : Item) (rest : List Item) (u : Store) → IsToDo item → left ≡ item ∷ rest → t ≡ u → ¬ (NarrowItem item u) → WideNext left t
+wide_next [] t item rest u to_do e p h = cc
+wide_next (halt ∷ w) t item rest u to_do e p h = absurd (subst IsToDo (sym (ap (first_of_list item) e)) to_do)
+wide_next (i ∷ w) t item rest u to_do e p h = let one : i ≡ item = cc in λ n. h (subst (λ v. NarrowItem item v) p (subst (λ j. NarrowItem j t) one n))
 
 none_ended : (n : ℕ) (work : List Item) (s : Store) (left : List Item) (t : Store) → (after n work s).work ≡ left → NarrowNext left t → run n work s ≡ None
 none_ended n work s [] t e h = absurd h
-none_ended n work s (i ∷ w) t e h = run_open n work s i w e
+none_ended n work s (halt ∷ w) t e h = absurd h
+none_ended n work s (i ∷ w) t e h = run_open n work s i w tt e
 
 pub at_next : (n : ℕ) (work : List Item) (s t : Store) (item : Item) (rest : List Item) (u : Store) (left : List Item)
-    → Stands n work s t (item ∷ rest) → Does item t rest Narrow u left → Stands (n + 1) work s u left
-at_next n work s t item rest u left stands does = rw add-one (record {
-  narrow = λ k h. below_more (λ j. NarrowNext ((after j work s).work) ((after j work s).store)) n stands.narrow (narrow_next _ _ item rest t stands.remains stands.holds does.0) k (omega arith);
+    → IsToDo item → Stands n work s t (item ∷ rest) → Does item t rest Narrow u left → Stands (n + 1) work s u left
+at_next n work s t item rest u left to_do stands does = rw add-one (record {
+  narrow = λ k h. below_more (λ j. NarrowNext ((after j work s).work) ((after j work s).store)) n stands.narrow (narrow_next _ _ item rest t to_do stands.remains stands.holds does.0) k (omega arith);
   holds = ap (λ d. d.store) next ∙ sym does.1;
   remains = ap (λ d. d.work) next ∙ sym does.2;
 })
@@ -65,22 +104,28 @@ at_next n work s t item rest u left stands does = rw add-one (record {
     next = after-more n work s item rest stands.remains ∙ ap (λ v. step item v rest) stands.holds
 
 pub at_wide : (n : ℕ) (work : List Item) (s t : Store) (item : Item) (rest : List Item) (u : Store) (left : List Item)
-    → Stands n work s t (item ∷ rest) → Does item t rest Wide u left → WideAt (n + 1) work s
-at_wide n work s t item rest u left stands does = record {
+    → IsToDo item → Stands n work s t (item ∷ rest) → Does item t rest Wide u left → WideAt (n + 1) work s
+at_wide n work s t item rest u left to_do stands does = record {
   before = n;
   counted = add-one n;
   narrow = stands.narrow;
-  wide = wide_next _ _ item rest t stands.remains stands.holds does;
+  wide = wide_next _ _ item rest t to_do stands.remains stands.holds does;
 }
 
-pub at_end : (n : ℕ) (work : List Item) (s t : Store) → Stands n work s t [] → EndsAt n work s t
-at_end n work s t stands = record {
-  reached = run_ended n work s stands.remains ∙ ap Some stands.holds;
+pub at_halt : (n : ℕ) (work : List Item) (s t : Store) (rest : List Item) → Stands n work s t (halt ∷ rest) → ComesOutAt n work s (halted t)
+at_halt n work s t rest stands = record {
+  reached = run_halted n work s rest stands.remains ∙ ap (λ u. Some (halted u)) stands.holds;
   least = λ k h. none_ended k work s _ _ refl (stands.narrow k h);
 }
 
-pub at_spent : (n : ℕ) (work : List Item) (s t : Store) (item : Item) (rest : List Item) → Stands n work s t (item ∷ rest) → run n work s ≡ None
-at_spent n work s t item rest stands = run_open n work s item rest stands.remains
+pub at_end : (n : ℕ) (work : List Item) (s t : Store) → Stands n work s t [] → ComesOutAt n work s (ended t)
+at_end n work s t stands = record {
+  reached = run_ended n work s stands.remains ∙ ap (λ u. Some (ended u)) stands.holds;
+  least = λ k h. none_ended k work s _ _ refl (stands.narrow k h);
+}
+
+pub at_spent : (n : ℕ) (work : List Item) (s t : Store) (item : Item) (rest : List Item) → IsToDo item → Stands n work s t (item ∷ rest) → run n work s ≡ None
+at_spent n work s t item rest to_do stands = run_open n work s item rest to_do stands.remains
 
 -- ---- the same, at what the machine has in hand
 pub starts : (work left : List Item) (s t : Store) → t ≡ s → left ≡ work → Stands 0 work s t left
@@ -90,18 +135,21 @@ with_first : (n : ℕ) (work : List Item) (s t : Store) (all : List Item) (item 
 with_first n work s t all item rest e stands = subst (λ l. Stands n work s t l) e stands
 
 pub goes_on : (n : ℕ) (work : List Item) (s t : Store) (all : List Item) (item : Item) (rest : List Item) (w : Width) (u : Store) (left : List Item)
-    → all ≡ item ∷ rest → Stands n work s t all → Does item t rest w u left → (w ≡ Wide → ⊥) → Stands (n + 1) work s u left
-goes_on n work s t all item rest Narrow u left e stands does h = at_next n work s t item rest u left (with_first n work s t all item rest e stands) does
-goes_on n work s t all item rest Wide u left e stands does h = absurd (h refl)
+    → IsToDo item → all ≡ item ∷ rest → Stands n work s t all → Does item t rest w u left → (w ≡ Wide → ⊥) → Stands (n + 1) work s u left
+goes_on n work s t all item rest Narrow u left to_do e stands does h = at_next n work s t item rest u left to_do (with_first n work s t all item rest e stands) does
+goes_on n work s t all item rest Wide u left to_do e stands does h = absurd (h refl)
 
 pub stops_wide : (n : ℕ) (work : List Item) (s t : Store) (all : List Item) (item : Item) (rest : List Item) (w : Width) (u : Store) (left : List Item)
-    → all ≡ item ∷ rest → Stands n work s t all → Does item t rest w u left → w ≡ Wide → WideAt (n + 1) work s
-stops_wide n work s t all item rest Narrow u left e stands does h = cc
-stops_wide n work s t all item rest Wide u left e stands does h = at_wide n work s t item rest u left (with_first n work s t all item rest e stands) does
+    → IsToDo item → all ≡ item ∷ rest → Stands n work s t all → Does item t rest w u left → w ≡ Wide → WideAt (n + 1) work s
+stops_wide n work s t all item rest Narrow u left to_do e stands does h = cc
+stops_wide n work s t all item rest Wide u left to_do e stands does h = at_wide n work s t item rest u left to_do (with_first n work s t all item rest e stands) does
 
-pub stops_spent : (n steps : ℕ) (work : List Item) (s t : Store) (all : List Item) (item : Item) (rest : List Item) → n ≡ steps → all ≡ item ∷ rest → Stands n work s t all → (run steps work s ≡ None) × NarrowUpTo steps work s
-stops_spent n steps work s t all item rest is e stands =
-    subst (λ k. (run k work s ≡ None) × NarrowUpTo k work s) is (at_spent n work s t item rest (with_first n work s t all item rest e stands), stands.narrow)
+pub stops_spent : (n steps : ℕ) (work : List Item) (s t : Store) (all : List Item) (item : Item) (rest : List Item) → IsToDo item → n ≡ steps → all ≡ item ∷ rest → Stands n work s t all → (run steps work s ≡ None) × NarrowUpTo steps work s
+stops_spent n steps work s t all item rest to_do is e stands =
+    subst (λ k. (run k work s ≡ None) × NarrowUpTo k work s) is (at_spent n work s t item rest to_do (with_first n work s t all item rest e stands), stands.narrow)
 
-pub stops_ended : (n : ℕ) (work : List Item) (s t : Store) (all : List Item) → all ≡ [] → Stands n work s t all → EndsAt n work s t
+pub stops_ended : (n : ℕ) (work : List Item) (s t : Store) (all : List Item) → all ≡ [] → Stands n work s t all → ComesOutAt n work s (ended t)
 stops_ended n work s t all e stands = at_end n work s t (subst (λ l. Stands n work s t l) e stands)
+
+pub stops_halted : (n : ℕ) (work : List Item) (s t : Store) (all rest : List Item) → all ≡ halt ∷ rest → Stands n work s t all → ComesOutAt n work s (halted t)
+stops_halted n work s t all rest e stands = at_halt n work s t rest (subst (λ l. Stands n work s t l) e stands)

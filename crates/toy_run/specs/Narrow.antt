@@ -6,8 +6,8 @@ use Rattle.toy_imp.specs.Store.{Store}
 use Rattle.toy_imp.specs.Value.{value}
 use Rattle.toy_imp.specs.Expr.{Expr, num, at, add, sub, mul, par_expr, Exprs, no_exprs, expr}
 use Rattle.toy_imp.specs.Test.{Test, less, less_eq, equal, not_of, and_of, or_of, par_test}
-use Rattle.toy_imp.specs.Block.{skip, put, if_then, while_do, for_to, let_in, par_stmt}
-use Rattle.toy_imp.specs.Run.{Item, act, turns, restore}
+use Rattle.toy_imp.specs.Block.{skip, put, assert_that, if_then, while_do, for_to, let_in, par_stmt}
+use Rattle.toy_imp.specs.Run.{Item, act, turns, restore, halt}
 
 -- from -2^127 to 2^127 - 1
 abbrev pub IsNarrow : ℤ → Type 0
@@ -39,6 +39,7 @@ NarrowTest (par_test k) s = Unit {0}
 unfoldable pub NarrowItem : Item → Store → Type 0
 NarrowItem (act skip) s = Unit {0}
 NarrowItem (act (put x is e)) s = NarrowExprs is s × NarrowExpr e s
+NarrowItem (act (assert_that t)) s = NarrowTest t s
 NarrowItem (act (if_then t b c)) s = NarrowTest t s
 NarrowItem (act (while_do t b)) s = NarrowTest t s
 NarrowItem (act (for_to x lo hi b)) s = NarrowExpr lo s × NarrowExpr hi s
@@ -46,3 +47,4 @@ NarrowItem (act (let_in x e b)) s = NarrowExpr e s
 NarrowItem (act (par_stmt k)) s = Unit {0}
 NarrowItem (turns x k hi b) s = Unit {0}
 NarrowItem (restore x v) s = Unit {0}
+NarrowItem halt s = Unit {0}

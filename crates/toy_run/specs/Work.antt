@@ -1,23 +1,25 @@
 -- The work that the machine's items stand for; what is done next stands at their end.
--- An item is the rest of a block, the turns of a `for` from a number on, or a variable to be given a value back.
+-- An item is the rest of a block, the turns of a `for` from a number on, a variable to be given a value back, or to halt.
 use Rattle.std.specs.Prelude.{◌≡◌, List, [], ◌∷◌, ◌++◌, refl}
-use Rattle.toy_imp.specs.Run.{act, turns, restore, before}
+use Rattle.toy_imp.specs.Run.{act, turns, restore, halt, before}
 use Rattle.toy_imp.specs.Run as runs
 use Rattle.toy_imp.specs.BlockView.{block_of}
 use Rattle.toy_run.specs.declared.work.Item.{Item}
-use Rattle.toy_run.specs.declared.work.Item.TheVariants.{Acts, Turns, Restore}
+use Rattle.toy_run.specs.declared.work.Item.TheVariants.{Acts, Turns, Restore, Halt}
 
 -- the work of an item
 abbrev pub first_of : Item → runs.Item
 first_of (Acts s rest) = act s.now
 first_of (Turns x k hi b) = turns x.now k hi b.now
 first_of (Restore x v) = restore x.now v
+first_of Halt = halt
 
 -- and what follows it: the rest of its block, and then other work
 abbrev pub rest_of : Item → List runs.Item → List runs.Item
 rest_of (Acts s rest) work = before (block_of rest.now) work
 rest_of (Turns x k hi b) work = work
 rest_of (Restore x v) work = work
+rest_of Halt work = work
 
 -- items in front of other work, the last one first
 unfoldable pub onto : List Item → List runs.Item → List runs.Item

@@ -12,7 +12,7 @@ ghost use Rattle.toy_run.specs.Work.{work_of, first_of, rest_of};
 
 use crate::memory::Memory;
 use crate::ran::Ran;
-use crate::step::{Width, do_for, do_if, do_let, do_put, do_turn, do_while, write_variable};
+use crate::step::{Width, do_assert, do_for, do_if, do_let, do_put, do_turn, do_while, write_variable};
 use crate::work::{Item, pop_item, push_block, push_item};
 use std::alloc::Global;
 use toy_imp::{Block, NoMemory, Stmt, StmtNode};
@@ -30,6 +30,10 @@ pub fn run_program(alloc: Global, block: &Block, steps: u64) -> Result<Ran, NoMe
     let mut memory = Memory::new(alloc);
     let mut done = 0;
     while let Some(item) = pop_item(&mut work) {
+        if let Item::Halt = item {
+            let cells = memory.into_cells(alloc)?;
+            return Ok(Ran::Halted(cells, done));
+        }
         if done == steps {
             return Ok(Ran::Spent);
         }
@@ -59,6 +63,10 @@ fn do_item<'a>(
             write_variable(alloc, x, value, memory)?;
             Ok(Width::Narrow)
         }
+        Item::Halt => {
+            push_item(work, item)?;
+            Ok(Width::Narrow)
+        }
     }
 }
 
@@ -81,6 +89,10 @@ fn do_stmt<'a>(
         StmtNode::Put(x, indices, e) => {
             push_block(work, rest)?;
             do_put(alloc, x, indices.as_slice(), e, work, memory)
+        }
+        StmtNode::Assert(t) => {
+            push_block(work, rest)?;
+            do_assert(alloc, t, work, memory)
         }
         StmtNode::If(t, b, c) => {
             push_block(work, rest)?;

@@ -2,7 +2,7 @@
 //! Each is the step of the meaning of programs where it is narrow, by `specs/Does.antt`.
 
 ghost use Rattle.std.specs.Prelude.{◌≡◌, IfOk, OnOk, ◌∷◌, ◌<ℤ◌};
-ghost use Rattle.toy_imp.specs.Block.{put, if_then, while_do, for_to, let_in};
+ghost use Rattle.toy_imp.specs.Block.{put, assert_that, if_then, while_do, for_to, let_in};
 ghost use Rattle.toy_imp.specs.BlockView.{block_of};
 ghost use Rattle.toy_imp.specs.Cell.{variable};
 ghost use Rattle.toy_imp.specs.ExprView.{exprs_of};
@@ -46,6 +46,25 @@ pub fn do_put<'a>(
     };
     let place = place(alloc, x, indices)?;
     memory.write(place, value)?;
+    Ok(Width::Narrow)
+}
+
+/// Goes on, or halts where the test is false.
+#[tactic(auto, unfolding(toy_imp::specs::Run::step, crate::specs::Narrow::NarrowItem))]
+pub fn do_assert<'a>(
+    alloc: Global,
+    t: &Test,
+    work: &mut Vec<Item<'a>>,
+    memory: &Memory,
+) -> Result<Width, NoMemory>
+    ensures { IfOk result (λ w. Does (act (assert_that t.now)) (store_in memory.now) (work_of work.old.items) w (store_in memory.now) (work_of work.new.items)) }
+{
+    let Some(yes) = is_true(alloc, t, memory)? else {
+        return Ok(Width::Wide);
+    };
+    if !yes {
+        push_item(work, Item::Halt)?;
+    }
     Ok(Width::Narrow)
 }
 

@@ -17,6 +17,8 @@ pub enum Item<'a> {
     Turns(&'a Name, i128, i128, &'a Block),
     /// The variable to be given this value back.
     Restore(&'a Name, i128),
+    /// The run has halted, before all other work.
+    Halt,
 }
 
 /// Puts the statements of a block in front of the work.
