@@ -7,7 +7,7 @@ use Rattle.pec_text.specs.Id.{is_id}
 use Rattle.pec_text.specs.Line.{words}
 use Rattle.pec_text.specs.SectionHeader.{word_of, IsHeader, IsEnd, kinds, kind_of, header_of_words, header_of, is_end_of_words, is_end}
 use Rattle.pec_text.specs.declared.section_data.SectionKind.{SectionKind}
-use Rattle.pec_text.specs.declared.section_data.SectionKind.TheVariants.{Rule, Program, Cert, Refused, Trace, Report}
+use Rattle.pec_text.specs.declared.section_data.SectionKind.TheVariants.{Rule, Program, Cert, Refused, Trace, Report, Chain}
 
 -- ---- headers, of words
 pub header_of_two : (ws rest : List (List ℕ)) (word title : List ℕ) → ws ≡ word ∷ rest → rest ≡ title ∷ [] → header_of_words ws ≡ cond (is_id title) (option_map (λ kind. (kind, title)) (kind_of word)) None
@@ -42,6 +42,7 @@ kind_of-word_of Cert = refl
 kind_of-word_of Refused = refl
 kind_of-word_of Trace = refl
 kind_of-word_of Report = refl
+kind_of-word_of Chain = refl
 
 word_from_kind_of : (word : List ℕ) (kind : SectionKind) → kind_of word ≡ Some kind → word ≡ word_of kind
 word_from_kind_of word kind e = (bytes_eq-Decides word (word_of kind)).0 (find_passes (λ k. bytes_eq word (word_of k)) kinds kind e)

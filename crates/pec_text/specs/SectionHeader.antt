@@ -4,7 +4,7 @@ use Rattle.std.specs.Prelude.{◌≡◌, ℕ, Bool, true, false, Option, None, L
 use Rattle.pec_text.specs.Id.{is_id}
 use Rattle.pec_text.specs.Line.{words}
 use Rattle.pec_text.specs.declared.section_data.SectionKind.{SectionKind}
-use Rattle.pec_text.specs.declared.section_data.SectionKind.TheVariants.{Rule, Program, Cert, Refused, Trace, Report}
+use Rattle.pec_text.specs.declared.section_data.SectionKind.TheVariants.{Rule, Program, Cert, Refused, Trace, Report, Chain}
 
 -- the first word of a header
 abbrev pub word_of : SectionKind → List ℕ
@@ -14,6 +14,7 @@ word_of Cert = codes "cert"
 word_of Refused = codes "refused"
 word_of Trace = codes "trace"
 word_of Report = codes "report"
+word_of Chain = codes "chain"
 
 -- a header is two words, that of a kind and a title, which is an ID
 abbrev pub IsHeader : List ℕ → SectionKind → List ℕ → Type 0
@@ -25,7 +26,7 @@ IsEnd line = words line ≡ codes "end" ∷ []
 
 -- the kinds, in the order of the type
 abbrev pub kinds : List SectionKind
-kinds = Rule ∷ Program ∷ Cert ∷ Refused ∷ Trace ∷ Report ∷ []
+kinds = Rule ∷ Program ∷ Cert ∷ Refused ∷ Trace ∷ Report ∷ Chain ∷ []
 
 -- the kind whose word this is
 abbrev pub kind_of : List ℕ → Option SectionKind

@@ -296,6 +296,3 @@ fn sign_of(lexeme: &[u8]) -> Option<Sign>
 {
     lookup(&SIGNS, lexeme)
 }
-
-#[cfg(test)]
-mod tests;

@@ -11,6 +11,7 @@ pub enum SectionKind {
     Refused,
     Trace,
     Report,
+    Chain,
 }
 
 /// One section.

@@ -23,6 +23,8 @@ fn kind_of(word: &[u8]) -> Option<SectionKind>
         Some(SectionKind::Trace)
     } else if word == b"report".as_slice() {
         Some(SectionKind::Report)
+    } else if word == b"chain".as_slice() {
+        Some(SectionKind::Chain)
     } else {
         None
     }

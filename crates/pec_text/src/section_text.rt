@@ -70,6 +70,3 @@ fn section_body(alloc: Global, bytes: &[u8]) -> Result<Option<(Items<u8>, &[u8])
 pub fn every_text_has_one_list()
     ensures { (bytes : List ℕ) (text : SectionList) → IsText bytes text ↔ (text ≡ sections_of bytes) }
 {}
-
-#[cfg(test)]
-mod tests;
