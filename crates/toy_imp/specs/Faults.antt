@@ -117,12 +117,14 @@ is_swaps _ = false
 abbrev pub is_simulate : Method → Bool
 is_simulate method.Simulate = true
 is_simulate method.Permute = false
+is_simulate method.Chain = false
+is_simulate method.Tile = false
 
 abbrev pub simulates_scopes : Rule → Bool
 simulates_scopes rule = is_simulate rule.method && (has_scope rule.left || has_scope rule.right || list_any is_swaps rule.conditions)
 
--- F6: a listed cut is no pair of points inside the left and the right side, a pair is listed twice, or a rule of method
--- permute lists cuts
+-- F6: a rule of method permute or chain lists cuts; in a rule of method simulate or tile a listed cut is no pair of points
+-- inside the left and the right side, or a pair is listed twice
 abbrev pub same_pair : ℕ × ℕ → ℕ × ℕ → Bool
 same_pair a b = a.0 == b.0 && a.1 == b.1
 
@@ -150,8 +152,14 @@ abbrev pub lists_cuts : CutList → Bool
 lists_cuts cuts.Default = false
 lists_cuts (cuts.Listed pairs) = true
 
+abbrev pub may_list_cuts : Method → Bool
+may_list_cuts method.Simulate = true
+may_list_cuts method.Permute = false
+may_list_cuts method.Chain = false
+may_list_cuts method.Tile = true
+
 abbrev pub has_wrong_cuts : Rule → Bool
-has_wrong_cuts rule = if is_simulate rule.method then cuts_nothing rule.cuts rule.left rule.right else lists_cuts rule.cuts
+has_wrong_cuts rule = if may_list_cuts rule.method then cuts_nothing rule.cuts rule.left rule.right else lists_cuts rule.cuts
 
 -- F11: more than 64 parameters or more than 64 conditions
 abbrev pub is_too_large : Rule → Bool

@@ -33,11 +33,13 @@ pub data ConditionTree : Type 0 where
   swaps_over_1 : List ℕ → List ℕ → List ℕ → Region → ConditionTree
   swaps_over_2 : List ℕ → List ℕ → List ℕ → List ℕ → Region → ConditionTree
 
--- method : nothing | "method" "simulate" ";" | "method" "permute" ";"
+-- method : nothing | "method" ("simulate" | "permute" | "chain" | "tile") ";"
 pub data MethodTree : Type 0 where
   no_method : MethodTree
   simulated : MethodTree
   permuted : MethodTree
+  chained : MethodTree
+  tiled : MethodTree
 
 -- cuts : nothing | "cuts" "none" ";" | "cuts" NUM NUM ("," NUM NUM)* ";"
 pub data CutsTree : Type 0 where
@@ -77,6 +79,8 @@ abbrev pub method_value : MethodTree → Method
 method_value no_method = method.Simulate
 method_value simulated = method.Simulate
 method_value permuted = method.Permute
+method_value chained = method.Chain
+method_value tiled = method.Tile
 
 -- The greatest number of a point. A greater one counts as this one; its text is refused as too wide.
 abbrev pub greatest_cut : ℕ

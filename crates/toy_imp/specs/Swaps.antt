@@ -20,9 +20,10 @@ abbrev pub IsCrossing : List ℤ → List ℤ → Type 0
 IsCrossing (x1 ∷ x2 ∷ []) (y1 ∷ y2 ∷ []) = ((x1 <ℤ y1) × (y2 <ℤ x2)) ⊎ ((y1 <ℤ x1) × (x2 <ℤ y2))
 IsCrossing _ _ = ⊥
 
+-- the region of a pair of tuples, the first statement's and the second's; in `earlier` the second's is before the first's
 abbrev pub IsWithin : Region → List ℤ → List ℤ → Type 0
 IsWithin region.Distinct a b = a ≢ b
-IsWithin region.Earlier a b = IsBefore a b
+IsWithin region.Earlier a b = IsBefore b a
 IsWithin region.Crossing a b = IsCrossing a b
 
 -- `let names = numbers { b }`: the names set one inside the other, the first outermost

@@ -11,7 +11,7 @@ use std::alloc::Global;
 pub enum Region {
     /// The tuples differ.
     Distinct,
-    /// The first is before the second in lexicographic order.
+    /// The second is before the first in lexicographic order.
     Earlier,
     /// Of two counters each, one is less and the other greater.
     Crossing,

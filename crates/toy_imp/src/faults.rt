@@ -259,10 +259,19 @@ fn has_wrong_cuts(rule: &Rule, repeats_cut: bool) -> bool
     match &rule.cuts {
         CutList::Default => false,
         CutList::Listed(pairs) => {
-            rule.method == Method::Permute
+            !may_list_cuts(rule.method)
                 || !are_inside(pairs.as_slice(), &rule.left, &rule.right)
                 || repeats_cut
         }
+    }
+}
+
+fn may_list_cuts(method: Method) -> bool
+    ensures { result ≡ spec.may_list_cuts method }
+{
+    match method {
+        Method::Simulate | Method::Tile => true,
+        Method::Permute | Method::Chain => false,
     }
 }
 

@@ -13,8 +13,14 @@ use std::alloc::Global;
 /// How a rule is to be proved. It has no part in when the rule is valid.
 #[derive(Clone, Copy, Debug, PartialEq, Eq)]
 pub enum Method {
+    /// The two sides are run side by side.
     Simulate,
+    /// Two nests of loops make the same turns in another order.
     Permute,
+    /// Rules that are proved lead from the left side to the right.
+    Chain,
+    /// Loops are cut into tiles of constant sizes.
+    Tile,
 }
 
 /// Which pairs of points a proof by simulation relates. It has no part in when the rule is valid.
