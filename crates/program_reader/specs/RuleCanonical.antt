@@ -14,7 +14,7 @@ use Rattle.toy_imp.specs.declared.rule.Rule.{Rule}
 use Rattle.toy_imp.specs.BlockCanonical.{canonical_block}
 use Rattle.toy_imp.specs.ExprCanonical.{declared_name}
 use Rattle.toy_imp.specs.Faults.{kind_is}
-use Rattle.toy_imp.specs.RuleGrammar.{Declaration, ConditionTree, keeps, ignores, commutes, positive, constant, distinct, quiet, swaps_over_1, swaps_over_2, MethodTree, no_method, permuted, CutsTree, no_cuts, cuts_none, cuts_at, RuleTree}
+use Rattle.toy_imp.specs.RuleGrammar.{Declaration, ConditionTree, keeps, ignores, commutes, positive, constant, distinct, quiet, swaps_over_1, swaps_over_2, MethodTree, no_method, permuted, chained, tiled, CutsTree, no_cuts, cuts_none, cuts_at, RuleTree}
 
 -- a parameter in front of declarations: in the first of them where that is of its kind, else in one of its own
 abbrev pub declared_before : Param → List Declaration → List Declaration
@@ -46,6 +46,8 @@ canonical_condition ps (condition.Swaps s t names region) = swaps_over (declared
 abbrev pub canonical_method : Method → MethodTree
 canonical_method method.Simulate = no_method
 canonical_method method.Permute = permuted
+canonical_method method.Chain = chained
+canonical_method method.Tile = tiled
 
 abbrev pub canonical_cuts : CutList → CutsTree
 canonical_cuts cuts.Default = no_cuts

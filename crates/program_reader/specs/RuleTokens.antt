@@ -4,7 +4,7 @@ use Rattle.toy_imp.specs.declared.condition.Region.{Region}
 use Rattle.toy_imp.specs.declared.condition.Region.TheVariants as region
 use Rattle.toy_imp.specs.declared.param.Kind.{Kind}
 use Rattle.toy_imp.specs.declared.param.Kind.TheVariants as kind
-use Rattle.toy_imp.specs.RuleGrammar.{Declaration, ConditionTree, keeps, ignores, commutes, positive, constant, distinct, quiet, swaps_over_1, swaps_over_2, MethodTree, no_method, simulated, permuted, CutsTree, no_cuts, cuts_none, cuts_at, RuleTree}
+use Rattle.toy_imp.specs.RuleGrammar.{Declaration, ConditionTree, keeps, ignores, commutes, positive, constant, distinct, quiet, swaps_over_1, swaps_over_2, MethodTree, no_method, simulated, permuted, chained, tiled, CutsTree, no_cuts, cuts_none, cuts_at, RuleTree}
 use Rattle.pec_text.specs.Spelling.{numeral_of}
 use Rattle.pec_text.specs.declared.token.Sign.TheVariants as s
 use Rattle.pec_text.specs.declared.token.Token.{Token}
@@ -45,6 +45,8 @@ abbrev pub method_tokens : MethodTree → List Token
 method_tokens no_method = []
 method_tokens simulated = t.Word w.Method ∷ t.Name (codes "simulate") ∷ t.Sign s.Semicolon ∷ []
 method_tokens permuted = t.Word w.Method ∷ t.Name (codes "permute") ∷ t.Sign s.Semicolon ∷ []
+method_tokens chained = t.Word w.Method ∷ t.Name (codes "chain") ∷ t.Sign s.Semicolon ∷ []
+method_tokens tiled = t.Word w.Method ∷ t.Name (codes "tile") ∷ t.Sign s.Semicolon ∷ []
 
 abbrev pub pair_tokens : ℕ × ℕ → List Token
 pair_tokens a = t.Number (numeral_of a.0) ∷ t.Number (numeral_of a.1) ∷ []
