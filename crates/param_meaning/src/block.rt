@@ -2,7 +2,7 @@
 //! The answer is `fill` of `toy_imp`'s `specs/Fill.antt`.
 
 ghost use Rattle.std.specs.Prelude.{◌≡◌, IfOk, OnOk};
-ghost use Rattle.toy_imp.specs.Block.{put, if_then, while_do, for_to, let_in, empty, stmt, append};
+ghost use Rattle.toy_imp.specs.Block.{put, assert_that, if_then, while_do, for_to, let_in, empty, stmt, append};
 ghost use Rattle.toy_imp.specs.ExprView.{exprs_of};
 ghost use Rattle.toy_imp.specs.Fill.{fill_name, fill_expr, fill_exprs, fill_test, fill_stmt, fill};
 
