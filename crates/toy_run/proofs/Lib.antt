@@ -1,4 +1,5 @@
 pub mod Counting
+pub mod Determined
 pub mod Listing
 pub mod Stores
 pub mod Values

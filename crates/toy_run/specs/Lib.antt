@@ -4,6 +4,7 @@ pub mod Memory
 pub mod Narrow
 pub mod Place
 pub mod Ran
+pub mod RanLaws
 pub mod Stored
 pub mod Steps
 pub mod Work

@@ -5,6 +5,7 @@
 
 mod cell;
 mod evaluate;
+pub mod laws;
 mod memory;
 mod place;
 mod ran;
