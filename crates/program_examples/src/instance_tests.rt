@@ -9,7 +9,7 @@ use toy_imp::{Block, Expr, Filling, Instance, Name, NoMemory, Stmt, Test};
 
 const EVERY_FORM: &str = "\
 if 0 < 1 { for i = 0 to 9 { let x = 5 { while not 0 < 9 and 1 <= 9 or x == 0 { skip; } } } } else { } \
-a[4] := (2 + 1 - 1) * 3;";
+a[4] := (2 + 1 - 1) * 3; assert x == 0;";
 
 // Whether a copy of that program, with a statement behind it, is a program.
 fn is_program_behind(alloc: Global, last: Stmt) -> Option<bool> {

@@ -1,5 +1,6 @@
-//! Worked texts of programs and rules, as tests of the crates below: what is read, refused, printed, filled and
-//! run, worked out by hand. Its readers of texts serve the tests of crates above. It promises nothing.
+//! Readers of programs, rules and stores that are given as texts, for tables of tests in the crates above, and each public
+//! call of the crates below that no program makes yet, once on its happy path. It promises nothing; what texts are read,
+//! refused, printed and run as is shown on `./pec` itself, by the texts of `rules/`.
 #![tactic(auto)]
 
 mod stores;
@@ -9,24 +10,10 @@ pub use stores::assignments;
 pub use texts::{program, rule, section};
 
 #[cfg(test)]
-mod fault_tests;
-#[cfg(test)]
 mod filling_tests;
-#[cfg(test)]
-mod generated;
 #[cfg(test)]
 mod instance_tests;
 #[cfg(test)]
-mod names_tests;
-#[cfg(test)]
 mod nesting_tests;
 #[cfg(test)]
-mod printed_program_tests;
-#[cfg(test)]
-mod printed_rule_tests;
-#[cfg(test)]
-mod program_tests;
-#[cfg(test)]
-mod rule_tests;
-#[cfg(test)]
-mod run_tests;
+mod printing_tests;

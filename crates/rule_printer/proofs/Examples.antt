@@ -129,6 +129,9 @@ nothing = refl
 empty_blocks : lines (stmt (if_then p empty empty) (stmt (while_do q empty) empty)) ≡ codes "if x < y { } else { }\nwhile y <= z { }\n"
 empty_blocks = refl
 
+assertion : lines (stmt (assert_that (and_of (or_of p q) r)) empty) ≡ codes "assert [x < y or y <= z] and x == z;\n"
+assertion = refl
+
 both_branches : lines (stmt (if_then p (set (codes "x") y) (set (codes "y") x)) empty) ≡ codes "if x < y {\n  x := y;\n} else {\n  y := x;\n}\n"
 both_branches = refl
 

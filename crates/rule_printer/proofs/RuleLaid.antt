@@ -86,6 +86,14 @@ permute_word : IsName (codes "permute")
 unfolding reserved_of
 permute_word = free_word (codes "permute") refl refl
 
+chain_word : IsName (codes "chain")
+unfolding reserved_of
+chain_word = free_word (codes "chain") refl refl
+
+tile_word : IsName (codes "tile")
+unfolding reserved_of
+tile_word = free_word (codes "tile") refl refl
+
 region_is_name : (r : Region) → IsName (region_word r)
 unfolding reserved_of
 region_is_name region.Distinct = free_word (codes "distinct") refl refl
@@ -145,9 +153,15 @@ declarations_laid [] all = no_lines
 declarations_laid (d ∷ ds) all = lines_then (as_lines (declaration_closed d all.0)) (declarations_laid ds all.1)
 
 -- ---- the method and the cuts
+-- a line that names a method
+method_named : (word : List ℕ) → IsName word → Lines (codes "method " ++ (word ++ codes ";\n")) (t.Word w.Method ∷ t.Name word ∷ t.Sign s.Semicolon ∷ [])
+method_named word is = as_lines (then_close (word_before w.Method refl) (then_close (name_laid word is) closed (λ rest. refl)) (λ rest. tt))
+
 method_laid : (m : Method) → Lines (method_bytes (canonical_method m)) (method_tokens (canonical_method m))
 method_laid method.Simulate = no_lines
-method_laid method.Permute = as_lines (then_close (word_before w.Method refl) (then_close (name_laid (codes "permute") permute_word) closed (λ rest. refl)) (λ rest. tt))
+method_laid method.Permute = method_named (codes "permute") permute_word
+method_laid method.Chain = method_named (codes "chain") chain_word
+method_laid method.Tile = method_named (codes "tile") tile_word
 
 wide_enough : (k : ℕ) → k < 2 ^ 32 → k < 2 ^ 63
 wide_enough k low = omega arith

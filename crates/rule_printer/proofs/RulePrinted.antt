@@ -90,6 +90,8 @@ conditions_back ps (c ∷ cs) h = λ i. condition_back ps c ((and_parts _ _ h).0
 method_back : (m : Method) → method_value (canonical_method m) ≡ m
 method_back method.Simulate = refl
 method_back method.Permute = refl
+method_back method.Chain = refl
+method_back method.Tile = refl
 
 narrow_back : (k : ℕ) → nat_lt k (2 ^ 32) ≡ true → min k greatest_cut ≡ k
 narrow_back k h = omega (arith, ltb-true k (2 ^ 32) h)

@@ -2,7 +2,7 @@
 -- condition, the method and the cuts, and the two sides in braces.
 use Rattle.std.specs.Prelude.{ℕ, List, [], ◌++◌, codes, decimal, flat_map}
 use Rattle.toy_imp.specs.BlockGrammar.{StmtsTree}
-use Rattle.toy_imp.specs.RuleGrammar.{Declaration, ConditionTree, keeps, ignores, commutes, positive, constant, distinct, quiet, swaps_over_1, swaps_over_2, MethodTree, no_method, simulated, permuted, CutsTree, no_cuts, cuts_none, cuts_at, RuleTree}
+use Rattle.toy_imp.specs.RuleGrammar.{Declaration, ConditionTree, keeps, ignores, commutes, positive, constant, distinct, quiet, swaps_over_1, swaps_over_2, MethodTree, no_method, simulated, permuted, chained, tiled, CutsTree, no_cuts, cuts_none, cuts_at, RuleTree}
 use Rattle.pec_text.specs.Spelling.{word_text}
 use Rattle.program_reader.specs.RuleTokens.{kind_word, region_word}
 use Rattle.rule_printer.specs.CanonicalText.{in_block, stmts_bytes}
@@ -32,6 +32,8 @@ abbrev pub method_bytes : MethodTree → List ℕ
 method_bytes no_method = []
 method_bytes simulated = codes "method simulate;\n"
 method_bytes permuted = codes "method permute;\n"
+method_bytes chained = codes "method chain;\n"
+method_bytes tiled = codes "method tile;\n"
 
 abbrev pub pair_bytes : ℕ × ℕ → List ℕ
 pair_bytes a = decimal a.0 ++ (codes " " ++ decimal a.1)

@@ -192,6 +192,8 @@ pub fn put_method(method: Method, out: &mut Vec<u8>) -> Result<(), NoMemory>
     match method {
         Method::Simulate => put(b"", out),
         Method::Permute => put(b"method permute;\n", out),
+        Method::Chain => put(b"method chain;\n", out),
+        Method::Tile => put(b"method tile;\n", out),
     }
 }
 

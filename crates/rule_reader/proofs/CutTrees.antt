@@ -5,7 +5,7 @@ use Rattle.std.proofs.lemmas.Option.{none-some, same_Some}
 use Rattle.toy_imp.specs.declared.rule.CutList.TheVariants as cuts
 use Rattle.toy_imp.specs.declared.rule.Method.{Method}
 use Rattle.toy_imp.specs.declared.rule.Method.TheVariants as method
-use Rattle.toy_imp.specs.RuleGrammar.{MethodTree, no_method, simulated, permuted, method_value, CutsTree, no_cuts, cuts_none, cuts_at, cut_value, greatest_cut}
+use Rattle.toy_imp.specs.RuleGrammar.{MethodTree, no_method, simulated, permuted, chained, tiled, method_value, CutsTree, no_cuts, cuts_none, cuts_at, cut_value, greatest_cut}
 use Rattle.pec_text.specs.Spelling.{numeral_of}
 use Rattle.pec_text.specs.declared.token.Numeral.{Numeral}
 use Rattle.pec_text.specs.declared.token.Numeral.TheVariants as n
@@ -38,7 +38,9 @@ method_is : (x : List ℕ) (m : Method) → method_of x ≡ Some m → IsMethod 
 method_is x m =
     word_case IsMethod x (codes "simulate") method.Simulate m _ (record { tree = simulated; spelled = refl; value_is = refl })
     (word_case IsMethod x (codes "permute") method.Permute m _ (record { tree = permuted; spelled = refl; value_is = refl })
-    (λ h. absurd (none-some _ h)))
+    (word_case IsMethod x (codes "chain") method.Chain m _ (record { tree = chained; spelled = refl; value_is = refl })
+    (word_case IsMethod x (codes "tile") method.Tile m _ (record { tree = tiled; spelled = refl; value_is = refl })
+    (λ h. absurd (none-some _ h)))))
 
 method_made : (x : List ℕ) (m : Method) (rest more : List Token) (q : Method × List Token) → rest ≡ t.Name x ∷ more → more ≡ t.Sign s.Semicolon ∷ q.1 → IsMethod x m → m ≡ q.0
     → HasMethod (t.Word w.Method ∷ rest) q
@@ -68,6 +70,8 @@ unfolding method_read named_method_read
 method_is_read no_method rest other = other
 method_is_read simulated rest other = refl
 method_is_read permuted rest other = refl
+method_is_read chained rest other = refl
+method_is_read tiled rest other = refl
 
 -- ---- numbers
 below : (k n : ℕ) → nat_lt k n ≡ true → k < n

@@ -6,7 +6,7 @@ use Rattle.toy_imp.specs.declared.rule.Method.{Method}
 use Rattle.toy_imp.specs.declared.rule.Method.TheVariants as method
 use Rattle.toy_imp.specs.Block.{Block}
 use Rattle.toy_imp.specs.BlockGrammar.{StmtsTree, stmts_value}
-use Rattle.toy_imp.specs.RuleGrammar.{ConditionTree, condition_value, MethodTree, no_method, simulated, permuted, method_value, CutsTree, no_cuts, cuts_none, cuts_at, params_value, RuleTree, rule_levels, rule_operators, rule_nesting}
+use Rattle.toy_imp.specs.RuleGrammar.{ConditionTree, condition_value, MethodTree, no_method, simulated, permuted, chained, tiled, method_value, CutsTree, no_cuts, cuts_none, cuts_at, params_value, RuleTree, rule_levels, rule_operators, rule_nesting}
 use Rattle.pec_text.specs.declared.token.Token.{Token}
 use Rattle.pec_text.specs.declared.token.Token.TheVariants as t
 use Rattle.pec_text.specs.declared.token.Word.TheVariants as w
@@ -33,6 +33,8 @@ no_kind : (cs : List ConditionTree) (m : MethodTree) (c : CutsTree) (rest : List
 no_kind (a ∷ cs) m c rest = refl
 no_kind [] simulated c rest = refl
 no_kind [] permuted c rest = refl
+no_kind [] chained c rest = refl
+no_kind [] tiled c rest = refl
 no_kind [] no_method no_cuts rest = refl
 no_kind [] no_method cuts_none rest = refl
 no_kind [] no_method (cuts_at a more) rest = refl
@@ -40,6 +42,8 @@ no_kind [] no_method (cuts_at a more) rest = refl
 no_given : (m : MethodTree) (c : CutsTree) (rest : List Token) → is_given (method_tokens m ++ (cuts_tokens c ++ (t.Word w.Left ∷ rest))) ≡ false
 no_given simulated c rest = refl
 no_given permuted c rest = refl
+no_given chained c rest = refl
+no_given tiled c rest = refl
 no_given no_method no_cuts rest = refl
 no_given no_method cuts_none rest = refl
 no_given no_method (cuts_at a more) rest = refl

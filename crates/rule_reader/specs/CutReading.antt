@@ -21,6 +21,8 @@ abbrev pub method_of : List ℕ → Option Method
 method_of word =
     if bytes_eq word (codes "simulate") then Some method.Simulate
     else if bytes_eq word (codes "permute") then Some method.Permute
+    else if bytes_eq word (codes "chain") then Some method.Chain
+    else if bytes_eq word (codes "tile") then Some method.Tile
     else None
 
 -- what follows the word `method`

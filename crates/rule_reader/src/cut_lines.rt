@@ -48,6 +48,10 @@ fn method_of(word: &[u8]) -> Option<Method>
         Some(Method::Simulate)
     } else if word == b"permute".as_slice() {
         Some(Method::Permute)
+    } else if word == b"chain".as_slice() {
+        Some(Method::Chain)
+    } else if word == b"tile".as_slice() {
+        Some(Method::Tile)
     } else {
         None
     }
