@@ -15,7 +15,7 @@ use Rattle.toy_imp.specs.Swaps.{set_round}
 use Rattle.toy_imp.specs.Run.{Item, act, restore, before, step, Outcome, ended, halted}
 use Rattle.toy_imp.specs.Ends.{Reaches, ComesOut, Ends, Halts}
 use Rattle.toy_imp.proofs.Cases.{step-let, value-num, run-done}
-use Rattle.toy_imp.proofs.Runs.{Through, through, halts_through, reaches_through, reaches_halt, never_both, before-append, before-split}
+use Rattle.toy_imp.proofs.Runs.{Through, through, halts_through, reaches_through, reaches_halt, never_both, before-split}
 use Rattle.toy_imp.proofs.Alikes.{append-empty, append-assoc, append_work}
 use Rattle.toy_imp.proofs.Stores.{write_is_read, write_keeps_others, write-write, write-read}
 use Rattle.iteration_order.specs.declared.bounds.Bounds.{Bounds}

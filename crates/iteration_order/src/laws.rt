@@ -1,6 +1,6 @@
 //! The laws of running order and of exchange, each the contract of a function that does nothing.
-//! A loop ends as the list of its turns, and for loops the exchange law means: the turns may run in any
-//! other order in which each two turns that change places end alike in both orders. The loop
+//! A loop ends and halts as the list of its turns, and for loops the exchange law means: the turns may run
+//! in any other order in which each two turns that change places are the same in both orders. The loop
 //! `for i = 0 to 3 { a[i] := a[i] + 1; }` has the turns 0, 1 and 2. Run backward, as 2, 1, 0, all three
 //! pairs change places, and each two turns write different cells, so both orders end in the same stores.
 //! With the body `a[i + 1] := a[i];` turn 1 reads what turn 0 writes, and the law says nothing.
@@ -11,13 +11,13 @@ ghost use Rattle.iteration_order.specs.Loops.{LoopIsItsTurns, NestIsItsTurns};
 ghost use Rattle.iteration_order.specs.RunningOrder.{TuplesAreTheTurns, TuplesAscend};
 
 /// A list of items that name blocks may be put in another order where the blocks of any two items whose
-/// order is reversed end alike in both orders.
+/// order is reversed end and halt alike in both orders.
 pub fn exchange<T>()
     ensures { Exchange T }
 {}
 
 /// Two lists of blocks, one a permutation of the other, in which any two blocks of reversed order end
-/// alike in both orders, end alike.
+/// and halt alike in both orders, end and halt alike.
 pub fn blocks_exchange()
     ensures { BlocksExchange }
 {}

@@ -131,6 +131,13 @@ tested : Fills (one (if_then B (one S) (one T))) (one (if_then low pair empty))
 unfolding fill fill_stmt fill_test fill_expr fill_exprs fill_name
 tested = (refl, refl, refl, refl, refl, refl, refl)
 
+-- the test of an `assert`
+asserted : Fills (two (assert_that B) S) (stmt (assert_that low) pair)
+    × Fills (one (assert_that (and_of (not_of C) (less E F)))) (one (assert_that (and_of (not_of clear) (less next seven))))
+    × Fills (one (assert_that (par_test 3))) (one (assert_that (par_test 3)))
+unfolding fill fill_stmt fill_test fill_expr fill_exprs fill_name
+asserted = (refl, refl, refl)
+
 -- what has no filling of its kind, or none at all, stays
 left_open : Fills (one (set (Par 1) (par_expr 0))) (one (set (Par 1) (par_expr 0)))
     × Fills (two (par_stmt 2) (par_stmt 8)) (two (par_stmt 2) (par_stmt 8))

@@ -150,6 +150,13 @@ empty_block = refl
 not_and_bracket : nesting (stmt (while_do (not_of (or_of t t)) empty) empty) ≡ 2
 not_and_bracket = refl
 
+-- `assert x < 1;` and `assert not x < 1;`
+plain_assert : nesting (stmt (assert_that t) empty) ≡ 0
+plain_assert = refl
+
+not_in_assert : nesting (stmt (assert_that (not_of t)) empty) ≡ 1
+not_in_assert = refl
+
 -- `for x = 0 to 9 { let x = 1 { if x < 1 { skip; } else { } } }`
 three_blocks : nesting (stmt (for_to (Own (letter 120)) (n 0) (n 9) (stmt (let_in (Own (letter 120)) (n 1) (stmt (if_then t (stmt skip empty) empty) empty)) empty)) empty) ≡ 3
 three_blocks = refl

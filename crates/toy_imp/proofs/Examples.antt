@@ -14,7 +14,7 @@ use Rattle.toy_imp.specs.Cell.{Cell, cell_cmp, variable}
 use Rattle.toy_imp.specs.Store.{Store, held, read, write}
 use Rattle.toy_imp.specs.Value.{value}
 use Rattle.toy_imp.specs.Truth.{truth}
-use Rattle.toy_imp.specs.Run.{act, step, ended, halted, run}
+use Rattle.toy_imp.specs.Run.{act, step, ended, run}
 use Rattle.toy_imp.specs.Ends.{Ends, Halts}
 use Rattle.toy_imp.specs.Fill.{fill_name, fill_exprs, fill_expr, fill_test, fill_stmt, fill}
 use Rattle.toy_imp.specs.Valid.{Valid}
@@ -25,10 +25,10 @@ use Rattle.toy_imp.proofs.Stores.{write_is_read, write_keeps_others, write-read}
 use Rattle.toy_imp.proofs.Runs.{one_final_store, never_both}
 use Rattle.toy_imp.proofs.Alikes.{skip_drops}
 
-abbrev x : Name
+abbrev pub x : Name
 x = Own (120 ∷ [])
 
-abbrev y : Name
+abbrev pub y : Name
 y = Own (121 ∷ [])
 
 apart : variable x ≢ variable y
@@ -114,13 +114,13 @@ unfolding fill fill_stmt
 skip_may_go = record { same = λ i fitting met. skip_drops empty empty }
 
 -- the store in which every cell holds 0
-blank : Store
+pub blank : Store
 blank = record { cells = map.empty; nonzero = λ c e. none_is_some (sym (map.get-empty cell_cmp c) ∙ e) }
   where
     none_is_some : ◌≡◌ {A = Option ℤ} None (Some (pos 0)) → ⊥
     none_is_some e = cc
 
-blank_holds : (c : Cell) → read blank c ≡ pos 0
+pub blank_holds : (c : Cell) → read blank c ≡ pos 0
 unfolding read blank
 blank_holds c = ap held (map.get-empty cell_cmp c)
 
@@ -129,10 +129,10 @@ unfolding run
 does_nothing = record { steps = 0; reached = refl }
 
 -- `assert 1 < 0;` may not come from nothing: then the rule's right side would halt, and its left side ends
-abbrev fails : Block
+abbrev pub fails : Block
 fails = stmt (assert_that (less (num (pos 1)) (num (pos 0)))) empty
 
-fails_halts : Halts fails blank blank
+pub fails_halts : Halts fails blank blank
 unfolding run step truth value
 fails_halts = record { steps = 1; reached = refl }
 

@@ -1,5 +1,8 @@
 mod CanonicalExamples
 mod Examples
+mod HaltExamples
+mod MethodExamples
+mod SwapExamples
 pub mod Alikes
 pub mod CanonicalValues
 pub mod Canonicals
