@@ -1,4 +1,5 @@
 pub mod Counts
+pub mod Endings
 pub mod Exchanges
 pub mod InOrder
 pub mod LoopNests
