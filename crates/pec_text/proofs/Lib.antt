@@ -1,3 +1,4 @@
+mod Examples
 pub mod FirstTokens
 pub mod Gaps
 pub mod Ids

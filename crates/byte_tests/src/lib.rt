@@ -1,0 +1,6 @@
+//! Tests of the crates of bytes, which hold none themselves: one call of each public function on the path on which
+//! memory suffices, and what no clause says. It promises nothing.
+#![tactic(auto)]
+
+#[cfg(test)]
+mod text_tests;
