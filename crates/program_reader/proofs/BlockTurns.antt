@@ -14,7 +14,7 @@ use Rattle.pec_text.specs.declared.token.Token.TheVariants as t
 use Rattle.pec_text.specs.declared.token.Word.TheVariants as w
 use Rattle.program_reader.specs.Read.{ReadStmt, and_next, alone}
 use Rattle.program_reader.specs.ExprReading.{brackets_read}
-use Rattle.program_reader.specs.BlockReading.{expr_alone, test_alone, index_apart, written_indices, brace_closed, is_end, block_read, assigned_read, else_read, to_read, stmt_read, many_read}
+use Rattle.program_reader.specs.BlockReading.{expr_alone, test_alone, index_apart, written_indices, brace_closed, ended, is_end, block_read, assigned_read, else_read, to_read, stmt_read, many_read}
 use Rattle.program_reader.specs.BlockParts.{to_bound, bounds_read, name_equals, for_read, let_read}
 use Rattle.program_reader.specs.declared.block_reading.Bounds.{Bounds}
 
@@ -69,6 +69,11 @@ module _ (ps : List Param) (d : ℕ) (inner : List Token → ReadStmt Block) whe
 
   pub if_none : (q : Test) (tokens rest : List Token) → test_alone ps d tokens ≡ Some (q, rest) → block_read ps d inner rest ≡ None → stmt_read ps d inner (t.Word w.If ∷ tokens) ≡ None
   if_none q tokens rest read body = if_read q tokens rest read ∙ ap (λ z. and_next z (λ b rest. else_read ps d inner q b rest)) body
+
+  pub assert_some : (q : Test) (tokens rest : List Token) → test_alone ps d tokens ≡ Some (q, rest)
+      → stmt_read ps d inner (t.Word w.Assert ∷ tokens) ≡ ended assert_that q rest
+  unfolding stmt_read
+  assert_some q tokens rest read = ap (λ z. and_next z (ended assert_that)) read
 
   while_read : (q : Test) (tokens rest : List Token) → test_alone ps d tokens ≡ Some (q, rest)
       → stmt_read ps d inner (t.Word w.While ∷ tokens) ≡ and_next (block_read ps d inner rest) (λ b rest. Some (while_do q b, rest))

@@ -2,7 +2,7 @@
 //! what is read, and the grammar of toy_imp what has a derivation.
 
 ghost use Rattle.std.specs.Prelude.{◌≡◌, ◌∷◌, suc, None, Some, IfOk, MatchOption};
-ghost use Rattle.toy_imp.specs.Block.{put, for_to, let_in};
+ghost use Rattle.toy_imp.specs.Block.{put, assert_that, for_to, let_in};
 ghost use Rattle.toy_imp.specs.ExprView.{exprs_of};
 ghost use Rattle.toy_imp.specs.Parameters.{name_value};
 ghost use Rattle.pec_text.specs.declared.token.Token.TheVariants as t;
@@ -173,9 +173,16 @@ fn asserted<'a>(
     ensures { Gives (λ p. (p.0, p.1.now)) result (stmt_read names.now levels (λ rest. stmts_read names.now levels rest) (t.Word w.Assert ∷ tokens.now)) }
 {
     let (condition, rest) = test_alone(alloc, names, levels, tokens)?;
-    match behind_sign(Sign::Semicolon, rest) {
-        Some(rest) => Ok((Stmt::assert_that(condition), rest)),
-        None => Err(Unread::NotGrammar),
+    assertion(condition, rest)
+}
+
+/// The `assert` of a test, at its semicolon.
+fn assertion(condition: Test, tokens: &[Token]) -> Result<(Stmt, &[Token]), Unread>
+    ensures { Gives (λ p. (p.0, p.1.now)) result (ended assert_that condition tokens.now) }
+{
+    match tokens.split_first() {
+        Some((Token::Sign(Sign::Semicolon), rest)) => Ok((Stmt::assert_that(condition), rest)),
+        _ => Err(Unread::NotGrammar),
     }
 }
 
