@@ -13,7 +13,7 @@ use Rattle.rule_terms.specs.declared.obligation.Atom.{Atom}
 use Rattle.rule_terms.specs.declared.obligation.Atom.TheVariants.{Ends, Holds}
 use Rattle.rule_terms.specs.declared.path.Path.{Path}
 use Rattle.rule_terms.specs.declared.path.Stop.TheVariants.{At, Stuck}
-use Rattle.rule_terms.specs.declared.tally.LimitKind.TheVariants.{PathSteps, Paths, Pairs, Entries}
+use Rattle.rule_terms.specs.declared.limit.LimitKind.TheVariants.{PathSteps, Paths, Pairs, Entries}
 use Rattle.path_pairs.specs.Outcomes.{outcomes}
 use Rattle.path_pairs.specs.Walks.{stmt_step, walks, goes_on}
 use Rattle.path_pairs.specs.Paths.{side_paths, has_long_walk}

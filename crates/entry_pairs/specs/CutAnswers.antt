@@ -6,7 +6,7 @@ use Rattle.toy_imp.specs.Points.{exit_point}
 use Rattle.toy_imp.specs.declared.rule.CutList.{CutList}
 use Rattle.toy_imp.specs.declared.rule.Rule.{Rule}
 use Rattle.rule_terms.specs.declared.path.Path.{Path}
-use Rattle.rule_terms.specs.declared.tally.LimitKind.TheVariants.{Entries, Pairs}
+use Rattle.rule_terms.specs.declared.limit.LimitKind.TheVariants.{Entries, Pairs}
 use Rattle.path_pairs.specs.declared.cut_points.CutPoints.{CutPoints}
 use Rattle.entry_pairs.specs.declared.refusal.CutsRefusal.{CutsRefusal}
 use Rattle.entry_pairs.specs.declared.refusal.CutsRefusal.TheVariants.{Limit, NoMemory}

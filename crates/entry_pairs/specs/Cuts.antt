@@ -11,8 +11,8 @@ use Rattle.toy_imp.specs.declared.rule.CutList.TheVariants.{Default, Listed}
 use Rattle.rule_terms.specs.declared.path.Path.{Path}
 use Rattle.rule_terms.specs.declared.path.Stop.{Stop}
 use Rattle.rule_terms.specs.declared.path.Stop.TheVariants.{At}
-use Rattle.rule_terms.specs.declared.tally.LimitKind.{LimitKind}
-use Rattle.rule_terms.specs.declared.tally.LimitKind.TheVariants.{Pairs, Entries}
+use Rattle.rule_terms.specs.declared.limit.LimitKind.{LimitKind}
+use Rattle.rule_terms.specs.declared.limit.LimitKind.TheVariants.{Pairs, Entries}
 use Rattle.path_pairs.specs.declared.cut_points.CutPoints.{CutPoints}
 use Rattle.entry_pairs.specs.declared.refusal.LimitMark.{LimitMark}
 use Rattle.path_pairs.specs.declared.cut_points.Side.TheVariants.{Left, Right}

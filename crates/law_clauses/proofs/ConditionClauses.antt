@@ -18,7 +18,7 @@ use Rattle.toy_imp.specs.Fits.{fits_kind}
 use Rattle.toy_imp.specs.Meets.{Meets}
 use Rattle.rule_terms.specs.Term.{StoreTerm, put, run, ValueTerm, num, get, ev, ValueTerms, no_terms, term}
 use Rattle.rule_terms.specs.Order.{store_same, place_same}
-use Rattle.rule_terms.specs.Universe.{is_commutes, is_ignores, commute, ignores}
+use Rattle.rule_terms.specs.Listed.{is_commutes, is_ignores, commute, ignores}
 use Rattle.rule_terms.specs.declared.obligation.Atom.TheVariants.{SameName, SameStore, SameValue, AtMost, Ends, Holds}
 use Rattle.term_meaning.specs.Indices.{count}
 use Rattle.term_meaning.specs.Table.{Entry, Faithful}

@@ -4,7 +4,7 @@ use Rattle.toy_imp.specs.declared.condition.Condition.TheVariants.{Keeps, Ignore
 use Rattle.toy_imp.specs.declared.param.Kind.TheVariants as kind
 use Rattle.rule_terms.specs.Term.{StoreTerm, left_store, right_store, run, ValueTerm, ev}
 use Rattle.rule_terms.specs.Order.{store_cmp, value_cmp, terms_cmp}
-use Rattle.rule_terms.specs.Universe.{commute, ignores}
+use Rattle.rule_terms.specs.Listed.{commute, ignores}
 use Rattle.rule_terms.specs.declared.obligation.Atom.TheVariants.{SameName, SameStore, SameValue, AtMost, Ends, Holds}
 use Rattle.rule_terms.specs.declared.obligation.Obligation.{Obligation}
 use Rattle.law_clauses.specs.Signed.{Signed, plus, minus}

@@ -7,7 +7,7 @@ use Rattle.toy_imp.specs.declared.condition.Condition.{Condition}
 use Rattle.toy_imp.specs.declared.param.Kind.{Kind}
 use Rattle.rule_terms.specs.Term.{StoreTerm, put, run, get, ev}
 use Rattle.rule_terms.specs.Order.{store_same, value_same, place_same}
-use Rattle.rule_terms.specs.Universe.{commute, ignores}
+use Rattle.rule_terms.specs.Listed.{commute, ignores}
 use Rattle.rule_terms.specs.declared.obligation.Atom.TheVariants.{SameName, SameStore, SameValue, AtMost, Ends, Holds}
 use Rattle.term_meaning.specs.Indices.{count}
 use Rattle.law_clauses.specs.Signed.{Signed, plus, minus}

@@ -1,5 +1,5 @@
 -- When a side condition is listed, and when a parameter stands for a name.
--- `commute` and `ignores` stand beside the universe of an obligation, which speaks of them too.
+-- `commute` and `ignores`, by which stores are exchanged, stand with the terms.
 use Rattle.std.specs.Prelude.{ℕ, Bool, true, false, ◌==◌, ◌&&◌, ◌||◌, List, Option, Some, None, slice_get}
 use Rattle.std.specs.List.{list_any}
 use Rattle.toy_imp.specs.declared.condition.Condition.{Condition}

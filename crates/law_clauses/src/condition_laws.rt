@@ -7,9 +7,9 @@ ghost use Rattle.law_clauses.specs.Signed.{signed_of};
 ghost use Rattle.law_clauses.specs.Shapes.{is_run};
 ghost use Rattle.law_clauses.specs.ConditionLaws.{law_11, law_12, law_13, law_14, written_at, law_15, law_16, law_17, law_18, law_19, law_20, law_21};
 
-use crate::listed::{commute, constant, distinct, ignores, is_name, keeps, positive};
+use crate::listed::{constant, distinct, is_name, keeps, positive};
 use crate::shapes::{count, is_ev, is_get, is_num, is_run};
-use rule_terms::{Atom, Literal, StoreNode, StoreTerm, ValueNode};
+use rule_terms::{Atom, Literal, StoreNode, StoreTerm, ValueNode, commute, ignores};
 use toy_imp::{Condition, Kind};
 
 // A run that keeps an expression.

@@ -2,7 +2,6 @@
 //! `specs/Listed.antt` says what is looked for.
 
 ghost use Rattle.std.specs.Prelude.{◌≡◌};
-ghost use Rattle.rule_terms.specs.Universe.{is_commutes, is_ignores, commute, ignores};
 ghost use Rattle.law_clauses.specs.Listed.{is_keeps, is_positive, is_constant, is_distinct, keeps, positive, constant, distinct, is_name};
 
 use toy_imp::{Condition, Kind};
@@ -22,49 +21,6 @@ pub fn keeps(conditions: &[Condition], k: u32, o: u32) -> bool
 {
     for condition in conditions {
         if is_keeps(condition, k, o) {
-            return true;
-        }
-    }
-    false
-}
-
-fn is_ignores(c: &Condition, k: u32, x: u32) -> bool
-    ensures { result ≡ is_ignores k x c.now }
-{
-    match c {
-        Condition::Ignores(a, b) => *a == k && *b == x,
-        _ => false,
-    }
-}
-
-#[tactic(auto, unfolding(rule_terms::specs::Universe::ignores))]
-pub fn ignores(conditions: &[Condition], k: u32, x: u32) -> bool
-    ensures { result ≡ ignores conditions.now k x }
-{
-    for condition in conditions {
-        if is_ignores(condition, k, x) {
-            return true;
-        }
-    }
-    false
-}
-
-fn is_commutes(c: &Condition, j: u32, k: u32) -> bool
-    ensures { result ≡ is_commutes j k c.now }
-{
-    match c {
-        Condition::Commutes(a, b) => (*a == j && *b == k) || (*a == k && *b == j),
-        _ => false,
-    }
-}
-
-// In either order.
-#[tactic(auto, unfolding(rule_terms::specs::Universe::commute))]
-pub fn commute(conditions: &[Condition], j: u32, k: u32) -> bool
-    ensures { result ≡ commute conditions.now j k }
-{
-    for condition in conditions {
-        if is_commutes(condition, j, k) {
             return true;
         }
     }

@@ -9,7 +9,7 @@ use Rattle.rule_terms.specs.Term.{StoreTerm}
 use Rattle.rule_terms.specs.Counts.{store_nodes, literals_nodes}
 use Rattle.rule_terms.specs.declared.obligation.Literal.{Literal}
 use Rattle.rule_terms.specs.declared.path.Path.{Path}
-use Rattle.rule_terms.specs.declared.tally.LimitKind.TheVariants.{PathNodes}
+use Rattle.rule_terms.specs.declared.limit.LimitKind.TheVariants.{PathNodes}
 use Rattle.path_pairs.specs.declared.refusal.PathRefusal.{PathRefusal}
 use Rattle.path_pairs.specs.declared.refusal.PathRefusal.TheVariants.{Limit, NoMemory}
 use Rattle.path_pairs.specs.NodeCounts.{outcome_nodes}

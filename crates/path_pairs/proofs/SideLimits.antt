@@ -10,7 +10,7 @@ use Rattle.rule_terms.specs.Term.{StoreTerm}
 use Rattle.rule_terms.specs.Counts.{saturated}
 use Rattle.rule_terms.specs.declared.obligation.Literal.{Literal}
 use Rattle.rule_terms.specs.declared.path.Path.{Path}
-use Rattle.rule_terms.specs.declared.tally.LimitKind.TheVariants.{PathSteps, Paths}
+use Rattle.rule_terms.specs.declared.limit.LimitKind.TheVariants.{PathSteps, Paths}
 use Rattle.path_pairs.specs.declared.cut_points.CutPoints.{CutPoints}
 use Rattle.path_pairs.specs.declared.cut_points.Side.{Side}
 use Rattle.path_pairs.specs.declared.refusal.PathRefusal.{PathRefusal}

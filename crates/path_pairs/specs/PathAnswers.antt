@@ -3,7 +3,7 @@ use Rattle.std.specs.Prelude.{ℕ, ◌≡◌, nat_lt, true, false, List, ◌++�
 use Rattle.std.specs.List.{list_any}
 use Rattle.toy_imp.specs.declared.rule.Rule.{Rule}
 use Rattle.rule_terms.specs.declared.path.Path.{Path}
-use Rattle.rule_terms.specs.declared.tally.LimitKind.TheVariants.{PathNodes}
+use Rattle.rule_terms.specs.declared.limit.LimitKind.TheVariants.{PathNodes}
 use Rattle.path_pairs.specs.declared.cut_points.CutPoints.{CutPoints}
 use Rattle.path_pairs.specs.declared.cut_points.Side.{Side}
 use Rattle.path_pairs.specs.declared.refusal.PathRefusal.{PathRefusal}

@@ -7,8 +7,8 @@ use Rattle.toy_imp.specs.declared.rule.Rule.{Rule}
 use Rattle.rule_terms.specs.Counts.{store_nodes, literals_nodes}
 use Rattle.rule_terms.specs.Term.{StoreTerm, left_store, right_store}
 use Rattle.rule_terms.specs.declared.path.Path.{Path}
-use Rattle.rule_terms.specs.declared.tally.LimitKind.{LimitKind}
-use Rattle.rule_terms.specs.declared.tally.LimitKind.TheVariants.{PathSteps, PathNodes, Paths}
+use Rattle.rule_terms.specs.declared.limit.LimitKind.{LimitKind}
+use Rattle.rule_terms.specs.declared.limit.LimitKind.TheVariants.{PathSteps, PathNodes, Paths}
 use Rattle.path_pairs.specs.declared.cut_points.CutPoints.{CutPoints}
 use Rattle.path_pairs.specs.declared.cut_points.Side.{Side}
 use Rattle.path_pairs.specs.declared.cut_points.Side.TheVariants.{Left, Right}

@@ -2,10 +2,11 @@
 //! input, and so many times walks it, counts it or makes its universe. Prints what the answers add up to.
 
 use anyhow::{Context, Result, bail};
-use rule_terms::{Obligation, counts, universe};
+use rule_terms::Obligation;
 use std::alloc::Global;
 use std::io;
 use term_examples::obligation;
+use term_universe::{counts, universe};
 
 /// Does it, and prints the sum.
 pub fn run(rt: &(impl Input + Print + AllocGlobal), what: &str, times: &str) -> Result<()> {

@@ -1,15 +1,5 @@
-pub mod Apart
-pub mod Closed
 pub mod Comparing
-pub mod Counting
-pub mod Different
-pub mod Exchanges
-pub mod Gathering
 pub mod Members
-pub mod Nexts
 pub mod Opens
 pub mod Orders
-pub mod Sorting
 pub mod Substitutions
-pub mod Universes
-pub mod Walks

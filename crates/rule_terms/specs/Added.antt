@@ -9,8 +9,3 @@ added same xs x = cond (list_any (same x) xs) xs (xs ++ x ∷ [])
 unfoldable pub added_all : {X : Type 0} → (X → X → Bool) → List X → List X → List X
 added_all same xs [] = xs
 added_all same xs (y ∷ ys) = added_all same (added same xs y) ys
-
--- the items that are not in a list
-unfoldable pub not_in : {X : Type 0} → (X → X → Bool) → List X → List X → List X
-not_in same base [] = []
-not_in same base (y ∷ ys) = cond (list_any (same y) base) (not_in same base ys) (y ∷ not_in same base ys)

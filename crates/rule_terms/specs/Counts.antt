@@ -1,16 +1,12 @@
--- The counts of an obligation, over its known conjuncts, its path and its goal: nodes, different stores, readings, and depth.
--- Each stands still at 2^64 - 1.
-use Rattle.std.specs.Prelude.{ℕ, ◌+◌, ◌-◌, ◌^◌, suc, min, max, Bool, true, false, cond, List, [], ◌∷◌, Option, Some, None}
-use Rattle.std.specs.List.{list_any, filter}
+-- How large terms, literals and an obligation are, over its known conjuncts, its path and its goal: nodes, and depth.
+-- Code counts up to 2^64 - 1, and stands still there.
+use Rattle.std.specs.Prelude.{ℕ, ◌+◌, ◌-◌, ◌^◌, suc, min, max, List, [], ◌∷◌, Option, Some, None}
 use Rattle.rule_terms.specs.Term.{StoreTerm, left_store, right_store, put, run, ValueTerm, num, get, ev, add, sub, mul, ValueTerms, no_terms, term, store_depth, value_depth}
-use Rattle.rule_terms.specs.Parts.{Part, a_store, a_value, a_place, an_expr, a_test, obligation_parts}
-use Rattle.rule_terms.specs.Order.{part_same}
 use Rattle.rule_terms.specs.declared.obligation.Atom.{Atom}
 use Rattle.rule_terms.specs.declared.obligation.Atom.TheVariants.{SameName, SameStore, SameValue, AtMost, Ends, Holds}
 use Rattle.rule_terms.specs.declared.obligation.Literal.{Literal}
 use Rattle.rule_terms.specs.declared.obligation.Conjunct.{Conjunct}
 use Rattle.rule_terms.specs.declared.obligation.Obligation.{Obligation}
-use Rattle.rule_terms.specs.declared.tally.Tally.{Tally}
 
 -- nodes: one for each constructor of a store term or value term, with repeats
 unfoldable mutual
@@ -92,34 +88,5 @@ conjuncts_depth (c ∷ cs) = max (conjunct_depth c) (conjuncts_depth cs)
 abbrev pub obligation_depth : Obligation → ℕ
 obligation_depth ob = max (conjuncts_depth ob.known) (max (literals_depth ob.path) (conjunct_depth ob.goal))
 
--- how many different items a list has: an item counts where no equal one comes after it
-unfoldable pub different : {X : Type 0} → (X → X → Bool) → List X → ℕ
-different same [] = 0
-different same (x ∷ xs) = cond (list_any (same x) xs) (different same xs) (suc (different same xs))
-
-abbrev pub is_store : Part → Bool
-is_store (a_store s) = true
-is_store _ = false
-
--- a place, an expression parameter or a test parameter
-abbrev pub is_reading : Part → Bool
-is_reading (a_place p) = true
-is_reading (an_expr k) = true
-is_reading (a_test k) = true
-is_reading _ = false
-
-abbrev pub is_value : Part → Bool
-is_value (a_value v) = true
-is_value _ = false
-
-abbrev pub different_stores : List Part → ℕ
-different_stores ps = different part_same (filter is_store ps)
-
-abbrev pub different_readings : List Part → ℕ
-different_readings ps = different part_same (filter is_reading ps)
-
 abbrev pub saturated : ℕ → ℕ
 saturated n = min n (2 ^ 64 - 1)
-
-abbrev pub tally : Obligation → Tally
-tally ob = record { nodes = saturated (obligation_nodes ob); stores = saturated (different_stores (obligation_parts ob)); readings = saturated (different_readings (obligation_parts ob)); depth = saturated (obligation_depth ob) }

@@ -1,7 +1,6 @@
 pub mod Added
 pub mod Counts
-pub mod Least
-pub mod NewReadings
+pub mod Listed
 pub mod Order
 pub mod Parts
 pub mod Substitute
@@ -11,7 +10,4 @@ pub mod TermCode
 pub mod TermFalls
 pub mod TermSize
 pub mod TermView
-pub mod Universe
-pub mod UniverseLaws
 pub mod ValueAt
-pub mod Walked

@@ -1,8 +1,7 @@
 //! The laws that proofs about terms stand on, each the contract of a function that does nothing.
-//! The statements are in `specs/SubstituteLaws.antt` and `specs/UniverseLaws.antt`.
+//! The statements are in `specs/SubstituteLaws.antt`.
 
 ghost use Rattle.rule_terms.specs.SubstituteLaws.{NodesReplaced, DepthReplaced, SidesStay, ReplacedTwice, PartsReplaced, NothingElse};
-ghost use Rattle.rule_terms.specs.UniverseLaws.{SubtermsAreThere, OrderIsFree};
 
 /// With stores in place of L and R a term has the nodes of the stores where it had those of L and R.
 pub fn nodes_replaced()
@@ -32,14 +31,4 @@ pub fn parts_replaced()
 /// Nothing else occurs there but what occurs in the stores.
 pub fn nothing_else()
     ensures { NothingElse }
-{}
-
-/// The universe holds the store terms and value terms that occur in its terms.
-pub fn subterms_are_there()
-    ensures { SubtermsAreThere }
-{}
-
-/// The universe does not depend on the order of the known conjuncts.
-pub fn order_is_free()
-    ensures { OrderIsFree }
 {}

@@ -2,9 +2,10 @@
 //! definitions. Each has a copy that is the same, and so has its universe.
 
 use crate::obligation;
-use rule_terms::{Obligation, counts, universe};
+use rule_terms::Obligation;
 use std::alloc::Global;
 use std::test::Fail;
+use term_universe::{counts, universe};
 use toy_imp::NoMemory;
 
 // Obligations; their nodes, stores, readings and depth; and how many store terms, value terms and tests

@@ -1,8 +1,0 @@
--- What is left of the list has a condition that is looked for exactly where the whole list has.
-use Rattle.std.proofs.Common.{◌≡◌, drop}
-use Rattle.std.specs.List.{list_any}
-use Rattle.rule_terms.specs.Universe.{is_commutes}
-use Rattle.law_clauses.proofs.listed.commute.Given as goal
-
-abbrev pub invariant-loop-condition : goal.invariant-loop-condition
-invariant-loop-condition l = list_any (is_commutes l.j l.k) (drop l.condition-index l.conditions) ≡ list_any (is_commutes l.j l.k) l.conditions

@@ -1,7 +1,0 @@
-use Rattle.std.proofs.Common.{◌≡◌, drop}
-use Rattle.std.specs.List.{list_any}
-use Rattle.rule_terms.specs.Universe.{is_ignores}
-use Rattle.rule_terms.proofs.exchange.ignores.Given as goal
-
-abbrev pub invariant-loop-condition : goal.invariant-loop-condition
-invariant-loop-condition l = list_any (is_ignores l.k l.x) (drop l.condition-index l.conditions) ≡ list_any (is_ignores l.k l.x) l.conditions

@@ -1,7 +1,0 @@
-use Rattle.std.proofs.Common.{◌≡◌, ◌++◌, map, drop}
-use Rattle.rule_terms.specs.NewReadings.{new_readings}
-use Rattle.rule_terms.specs.Walked.{part_of}
-use Rattle.rule_terms.proofs.term_universe.put_readings.Given as goal
-
-abbrev pub invariant-loop-part : goal.invariant-loop-part
-invariant-loop-part l = l.more ++ new_readings l.base (map part_of (drop l.part-index l.parts)) l.s ≡ l.fn.more ++ new_readings l.base (map part_of l.parts) l.s

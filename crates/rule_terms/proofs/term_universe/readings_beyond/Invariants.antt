@@ -1,8 +1,0 @@
-use Rattle.std.proofs.Common.{◌≡◌, ◌++◌, map, drop}
-use Rattle.std.specs.List.{flat_map}
-use Rattle.rule_terms.specs.NewReadings.{new_readings}
-use Rattle.rule_terms.specs.Walked.{part_of}
-use Rattle.rule_terms.proofs.term_universe.readings_beyond.Given as goal
-
-abbrev pub invariant-loop-s : goal.invariant-loop-s
-invariant-loop-s l = l.more ++ flat_map (new_readings l.base (map part_of l.parts)) (drop l.s-index l.stores) ≡ flat_map (new_readings l.base (map part_of l.parts)) l.stores

@@ -1,6 +1,0 @@
-use Rattle.std.proofs.Common.{◌∙◌}
-use Rattle.rule_terms.proofs.Universes.{stores_apart}
-use Rattle.rule_terms.proofs.term_universe.universe_of.Goals as goal
-
-pub all_values-requires-clause-stores : goal.all_values-requires-clause-stores
-all_values-requires-clause-stores c = stores_apart _ c.as_slice-2.result.now (c.as_slice-2.ensures ∙ c.in_ok-stores.ensures)

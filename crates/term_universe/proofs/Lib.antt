@@ -1,0 +1,11 @@
+pub mod Apart
+pub mod Closed
+pub mod Counting
+pub mod Different
+pub mod Exchanges
+pub mod Gathering
+pub mod Listings
+pub mod Nexts
+pub mod Sorting
+pub mod Universes
+pub mod Walks

@@ -1,0 +1,6 @@
+pub mod Least
+pub mod NewReadings
+pub mod Tallies
+pub mod Universe
+pub mod UniverseLaws
+pub mod Walked
