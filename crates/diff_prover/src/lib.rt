@@ -9,8 +9,6 @@ mod lowering;
 mod no_memory;
 mod row;
 mod search;
-#[cfg(test)]
-mod tests;
 mod trail;
 
 pub use answer::DiffAnswer;

@@ -9,8 +9,6 @@ mod bounds;
 pub mod laws;
 mod refusal;
 mod running;
-#[cfg(test)]
-mod tests;
 mod turns;
 
 pub use affine::Affine;

@@ -18,8 +18,6 @@ mod room;
 mod row;
 mod stage;
 mod step;
-#[cfg(test)]
-mod tests;
 mod value;
 
 pub use answer::{RowKind, RowMark, Rows};

@@ -1,6 +1,6 @@
 use Rattle.std.proofs.Common.{◌^◌, All}
 use Rattle.diff_prover.specs.Row.{IsWithin, IsRowOver}
-use Rattle.diff_prover.proofs.tests.chain.Given as goal
+use Rattle.number_tests.proofs.diff_tests.chain.Given as goal
 
 abbrev pub invariant-loop-i : goal.invariant-loop-i
 invariant-loop-i g l = record {

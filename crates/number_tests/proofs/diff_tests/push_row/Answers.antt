@@ -1,7 +1,7 @@
 use Rattle.std.proofs.Common.{◌^◌}
 use Rattle.std.proofs.lemmas.List.Elements.{All-push}
 use Rattle.diff_prover.specs.Row.{IsWithin, IsRowOver}
-use Rattle.diff_prover.proofs.tests.push_row.Goals as goal
+use Rattle.number_tests.proofs.diff_tests.push_row.Goals as goal
 
 pub returns-clause-rows : goal.returns-clause-rows
 returns-clause-rows g c =

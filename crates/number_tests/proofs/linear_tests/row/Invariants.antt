@@ -1,6 +1,6 @@
 use Rattle.std.proofs.Common.{◌≡◌, ◌≤◌, ◌^◌, All, length}
 use Rattle.std.specs.Prelude.{unsigned_abs}
-use Rattle.linear_rows.proofs.tests.row.Given as goal
+use Rattle.number_tests.proofs.linear_tests.row.Given as goal
 
 abbrev pub invariant-loop-i : goal.invariant-loop-i
 invariant-loop-i g l = record {

@@ -1,7 +1,7 @@
 use Rattle.std.proofs.Common.{◌≡◌, ◌∙◌, ap, sym, subst, zero, suc, [], ◌∷◌, ◌++◌, length, arith, ℕ, ◌<◌, slice_index_or}
 use Rattle.iteration_order.specs.declared.bounds.Bounds.{Bounds}
 use Rattle.iteration_order.specs.Nest.{AreBounds, IsNest}
-use Rattle.iteration_order.proofs.tests.nest_of.Goals as goal
+use Rattle.number_tests.proofs.nest_tests.nest_of.Goals as goal
 
 nest_one : (b : Bounds) → AreBounds 0 1 b → IsNest 1 (b ∷ [])
 nest_one b h = record { some_loop = omega arith; two_loops = omega arith; few_symbols = omega arith; bounds = bounds }
