@@ -1,5 +1,5 @@
 //! Lists of what occurs in an obligation, and lists to which terms are added that they do not hold yet.
-//! `specs/Added.antt` says what is added, `specs/Parts.antt` what occurs.
+//! `rule_terms` says in `specs/Added.antt` what is added, and in `specs/Parts.antt` what occurs.
 
 ghost use Rattle.std.specs.Prelude.{◌≡◌, [], ◌∷◌, ◌++◌, map, IfOk, OnOk};
 ghost use Rattle.std.specs.List.{list_any};

@@ -1,6 +1,6 @@
 //! What occurs in an obligation: store terms, value terms, places and parameters.
 //! `next_part` goes from each to the next greater one without memory: it walks over all and keeps the
-//! least above the last. `specs/Parts.antt` says what occurs, `specs/Least.antt` what the walk finds.
+//! least above the last. `specs/Parts.antt` of `rule_terms` says what occurs, `specs/Least.antt` what the walk finds.
 
 ghost use Rattle.std.specs.Prelude.{◌≡◌, None};
 ghost use Rattle.rule_terms.specs.TermView.{terms_of};

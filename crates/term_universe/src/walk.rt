@@ -1,5 +1,5 @@
 //! A walk over an obligation that puts down all that it meets: store terms, value terms, places and
-//! parameters, with repeats. `specs/Parts.antt` says what is met, and in which order.
+//! parameters, with repeats. `specs/Parts.antt` of `rule_terms` says what is met, and in which order.
 
 ghost use Rattle.std.specs.Prelude.{◌≡◌, [], ◌∷◌, ◌++◌, map, OnOk};
 ghost use Rattle.rule_terms.specs.TermView.{terms_of};
