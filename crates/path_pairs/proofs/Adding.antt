@@ -1,5 +1,5 @@
 -- Paths that are added one list after another, and walks of too many nodes.
-use Rattle.std.specs.Prelude.{◌≡◌, ℕ, suc, ◌+◌, ◌≤◌, ◌<◌, nat_lt, Bool, true, false, ◌||◌, List, [], ◌∷◌, ◌++◌, length, flat_map, Result, Ok, Err, Some, refl}
+use Rattle.std.specs.Prelude.{◌≡◌, ℕ, suc, ◌+◌, ◌≤◌, ◌<◌, nat_lt, Bool, true, false, ◌||◌, List, [], ◌∷◌, ◌++◌, length, flat_map, Result, Ok, Err, refl}
 use Rattle.std.specs.List.{list_any}
 use Rattle.std.proofs.Common.{sym, ◌∙◌, ap, subst, get_or, drop, inl, inr, arith}
 use Rattle.std.proofs.lemmas.List.{append_assoc, append-nil, drop_more, drop_all}
@@ -18,7 +18,7 @@ use Rattle.path_pairs.specs.PathAnswers.{Adds, RefusesNodes}
 use Rattle.path_pairs.specs.Paths.{path_nodes, is_large_path}
 use Rattle.path_pairs.specs.Rests.{Rest, stretch}
 use Rattle.path_pairs.specs.Walkable.{AreWalkable}
-use Rattle.path_pairs.specs.Walks.{stands, by_each, walks, goes_on}
+use Rattle.path_pairs.specs.Walks.{goes, stands, by_each, walks, goes_on}
 use Rattle.path_pairs.proofs.LargeWalks.{rest_is_plain, goes_large, large_is}
 use Rattle.path_pairs.proofs.NodesAt.{literals_append, has_nodes, le_is, some_has_nodes}
 use Rattle.path_pairs.proofs.Stopping.{or_cases, or_neither}
@@ -67,7 +67,7 @@ plain_of (stretch n b ∷ rest) h = (h.0.unscoped, plain_of rest h.1)
 pub walk_refused : (A : Type 0) (k : ℕ) (cuts : List ℕ) (exit : ℕ) (ls : List Literal) (s : StoreTerm) (rest : Rest) (before after : List Path) (e : PathRefusal) → AreWalkable rest
     → goes_on (suc k) cuts exit (stands ls s rest) ≡ false → RefusesNodes (literals_nodes ls + store_nodes s) e → Adds {A = A} (walks k cuts exit (stands ls s rest)) before after (Err e)
 walk_refused A k cuts exit ls s rest before after (Limit what) h ends large =
-    (large.0, goes_large k cuts exit ls s (Some rest) (plain_of rest h) ends (large_is (literals_nodes ls + store_nodes s) large.1))
+    (large.0, goes_large k cuts exit ls s (goes rest) (plain_of rest h) ends (large_is (literals_nodes ls + store_nodes s) large.1))
 walk_refused A k cuts exit ls s rest before after NoMemory h ends large = tt
 
 -- walks by each outcome, one after another
@@ -134,7 +134,7 @@ large_each k cuts exit j (o ∷ found) ls s rest h ends large some =
     or_neither (goes_on (suc k) cuts exit (stands (ls ++ o) s rest)) (list_any (goes_on (suc k) cuts exit) (by_each found ls s rest)) ends in
     elim (or_cases (has_nodes j o) (list_any (has_nodes j) found) some) [
       | inl d ↦ some_first (walks k cuts exit (stands (ls ++ o) s rest)) (flat_map (walks k cuts exit) (by_each found ls s rest))
-          (goes_large k cuts exit (ls ++ o) s (Some rest) (plain_of rest h) parts.0 (omega (arith, literals_append ls o, le_is j (literals_nodes o) d, large)))
+          (goes_large k cuts exit (ls ++ o) s (goes rest) (plain_of rest h) parts.0 (omega (arith, literals_append ls o, le_is j (literals_nodes o) d, large)))
       | inr d ↦ some_second (walks k cuts exit (stands (ls ++ o) s rest)) (flat_map (walks k cuts exit) (by_each found ls s rest)) (large_each k cuts exit j found ls s rest h parts.1 large d)
     ]
 

@@ -2,8 +2,10 @@ pub mod Adding
 pub mod Backwards
 pub mod Capped
 pub mod Comings
+mod Examples
 pub mod FromNext
 pub mod FromPoints
+pub mod Halting
 pub mod Joining
 pub mod LargeWalks
 pub mod NodesAt
@@ -13,6 +15,7 @@ pub mod OutcomeLengths
 pub mod OutcomeTruths
 pub mod Passing
 pub mod RestsAt
+pub mod RulePaths
 pub mod Saturating
 pub mod SideLimits
 pub mod Standing

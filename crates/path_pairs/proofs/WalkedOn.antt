@@ -4,10 +4,12 @@ use Rattle.std.specs.List.{list_any}
 use Rattle.std.proofs.Common.{sym, ◌∙◌, ap, subst, arith}
 use Rattle.std.proofs.lemmas.Bool.{and_parts}
 use Rattle.std.proofs.lemmas.List.{append-nil}
+use Rattle.std.proofs.lemmas.List.Folds.{list_any-append}
+use Rattle.std.proofs.lemmas.Grind.{flat_map-append}
 use Rattle.toy_imp.specs.declared.name.Name.{Name}
 use Rattle.toy_imp.specs.Expr.{Expr, Exprs}
 use Rattle.toy_imp.specs.Test.{Test}
-use Rattle.toy_imp.specs.Block.{Stmt, skip, put, if_then, while_do, par_stmt, Block, empty, stmt}
+use Rattle.toy_imp.specs.Block.{Stmt, skip, put, assert_that, if_then, while_do, par_stmt, Block, empty, stmt}
 use Rattle.toy_imp.specs.Points.{stmt_count, point_count}
 use Rattle.toy_imp.specs.Faults.{stmt_has_scope, has_scope}
 use Rattle.rule_terms.specs.Term.{StoreTerm}
@@ -25,7 +27,7 @@ use Rattle.path_pairs.specs.PathAnswers.{Adds}
 use Rattle.path_pairs.specs.Paths.{is_large_path}
 use Rattle.path_pairs.specs.Rests.{Rest, stretch}
 use Rattle.path_pairs.specs.Walkable.{IsWalkable, AreWalkable, IsStanding}
-use Rattle.path_pairs.specs.Walks.{Next, goes, stops, Walk, stands, each_so, by_each, stmt_step, rest_step, rest_stop, walks, goes_on}
+use Rattle.path_pairs.specs.Walks.{stops, Walk, stands, each_so, by_each, stmt_step, rest_step, rest_stop, walks, goes_on, halting_paths}
 use Rattle.path_pairs.proofs.Stopping.{or_neither}
 use Rattle.path_pairs.proofs.FromNext.{step_some}
 
@@ -151,6 +153,27 @@ unfolding walks
 stopped_walks zero cuts exit ls s stop = refl
 stopped_walks (suc k) cuts exit ls s stop = refl
 
+-- the outcomes in which an `assert` is false stop one by one
+halting_walks : (k : ℕ) (cuts : List ℕ) (exit : ℕ) (found : List (List Literal)) (ls : List Literal) (s : StoreTerm) → flat_map (walks k cuts exit) (each_so found ls s (stops Halted)) ≡ halting_paths found ls s
+halting_walks k cuts exit [] ls s = refl
+halting_walks k cuts exit (x ∷ found) ls s = λ i. stopped_walks k cuts exit (ls ++ x) s Halted i ++ halting_walks k cuts exit found ls s i
+
+pub assert_ends : (k : ℕ) (cuts : List ℕ) (exit n : ℕ) (a : Stmt) (t : Test) (here behind : Rest) (ls : List Literal) (s : StoreTerm) → a ≡ assert_that t
+    → list_any (goes_on (suc k) cuts exit) (stmt_step n a here behind ls s) ≡ false → list_any (goes_on (suc k) cuts exit) (by_each (outcomes t true s) ls s behind) ≡ false
+assert_ends k cuts exit n a t here behind ls s e h =
+    (or_neither (list_any (goes_on (suc k) cuts exit) (by_each (outcomes t true s) ls s behind)) (list_any (goes_on (suc k) cuts exit) (each_so (outcomes t false s) ls s (stops Halted)))
+    (sym (list_any-append (goes_on (suc k) cuts exit) (by_each (outcomes t true s) ls s behind) (each_so (outcomes t false s) ls s (stops Halted)))
+    ∙ same_ends k cuts exit _ _ (assert_step n a t here behind ls s e) h)).0
+
+pub assert_adds : {A : Type 0} (k : ℕ) (cuts : List ℕ) (exit n : ℕ) (a : Stmt) (t : Test) (here behind : Rest) (ls : List Literal) (s : StoreTerm) (before after : List Path) (r : Result A PathRefusal)
+    → a ≡ assert_that t → Adds (flat_map (walks k cuts exit) (by_each (outcomes t true s) ls s behind) ++ halting_paths (outcomes t false s) ls s) before after r
+    → Adds (flat_map (walks k cuts exit) (stmt_step n a here behind ls s)) before after r
+assert_adds k cuts exit n a t here behind ls s before after r e h =
+    same_adds k cuts exit _ _ before after r (assert_step n a t here behind ls s e)
+    (subst (λ f. Adds f before after r)
+    (sym (flat_map-append (walks k cuts exit) (by_each (outcomes t true s) ls s behind) (each_so (outcomes t false s) ls s (stops Halted))
+    ∙ ap (λ f. flat_map (walks k cuts exit) (by_each (outcomes t true s) ls s behind) ++ f) (halting_walks k cuts exit (outcomes t false s) ls s))) h)
+
 pub par_ends : (k : ℕ) (cuts : List ℕ) (exit n j : ℕ) (a : Stmt) (here behind : Rest) (ls : List Literal) (s : StoreTerm) → a ≡ par_stmt j
     → list_any (goes_on (suc k) cuts exit) (stmt_step n a here behind ls s) ≡ false
     → goes_on (suc k) cuts exit (stands (ls ++ record { sign = true; atom = Ends (term.run j s) } ∷ []) (term.run j s) behind) ≡ false
@@ -177,6 +200,9 @@ opened n a h = (and_parts (stmt_is_open a) true h.opened).0
 
 unscoped : (n : ℕ) (a : Stmt) → IsWalkable n (stmt a empty) → stmt_has_scope a ≡ false
 unscoped n a h = (or_neither (stmt_has_scope a) false h.unscoped).0
+
+pub assert_open : (n : ℕ) (a : Stmt) (t : Test) → a ≡ assert_that t → IsWalkable n (stmt a empty) → test_is_open t ≡ true
+assert_open n a t e h = sym (ap stmt_is_open e) ∙ opened n a h
 
 pub record PutOpen (x : Name) (es : Exprs) (v : Expr) : Type 0 where
   pub name : is_open x ≡ true

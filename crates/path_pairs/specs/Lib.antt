@@ -9,6 +9,7 @@ pub mod PathLaws
 pub mod Paths
 pub mod Rests
 pub mod RestsFound
+pub mod RulePaths
 pub mod Stretches
 pub mod Walkable
 pub mod Walks

@@ -12,6 +12,7 @@ mod met;
 mod node_counts;
 mod refusal;
 mod side_paths;
+mod stopped;
 mod stretch;
 mod test_outcome;
 mod walking;

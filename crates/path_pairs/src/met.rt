@@ -1,7 +1,7 @@
 //! What a walk met so far, with the numbers of its nodes. Nothing is built of which a walk would have more
 //! than 4,096: `specs/Counts.antt` of the terms says what is counted, `specs/PathAnswers.antt` what is refused.
 
-ghost use Rattle.std.specs.Prelude.{◌≡◌, ◌+◌, ◌≤◌, ◌<◌, true, [], ◌∷◌, ◌++◌, IfOk, IfErr};
+ghost use Rattle.std.specs.Prelude.{◌≡◌, ◌+◌, ◌≤◌, ◌<◌, true, false, [], ◌∷◌, ◌++◌, IfOk, IfErr};
 ghost use Rattle.toy_imp.specs.ExprView.{exprs_of};
 ghost use Rattle.rule_terms.specs.Counts.{saturated, store_nodes, literals_nodes};
 ghost use Rattle.rule_terms.specs.declared.obligation.Atom.TheVariants.{Ends};
@@ -168,7 +168,7 @@ impl Met {
         })
     }
 
-    /// With that a statement parameter does not end from the store.
+    /// With that a statement parameter does not end from the store, which stays.
     pub fn stuck(&self, alloc: Global, k: u32) -> Result<Met, PathRefusal>
         ensures literals { IfOk result (λ m. m.literals ≡ self.now.literals ++ record { sign = false; atom = Ends (run k self.now.store) } ∷ []) }
         ensures store { IfOk result (λ m. m.store ≡ self.now.store) }
@@ -179,22 +179,22 @@ impl Met {
         if nodes > MOST_NODES {
             return Err(PathRefusal::Limit(LimitKind::PathNodes));
         }
-        let run = ended(alloc, k, &self.store)?;
-        let literals = with_end(alloc, self.literals.as_slice(), false, &run)?;
-        let store = self.store.copy(alloc)?;
+        let behind = ended(alloc, k, &self.store)?;
+        let literals = with_end(alloc, self.literals.as_slice(), false, &behind)?;
+        let before = self.store.copy(alloc)?;
         Ok(Met {
             literals,
             of_literals,
-            store,
+            store: before,
             of_store: self.of_store,
         })
     }
 
     /// With the store in which a statement parameter ends.
-    pub fn run(&self, alloc: Global, k: u32, ends: bool) -> Result<Met, PathRefusal>
-        ensures literals { IfOk result (λ m. m.literals ≡ self.now.literals ++ record { sign = ends; atom = Ends (run k self.now.store) } ∷ []) }
+    pub fn run(&self, alloc: Global, k: u32) -> Result<Met, PathRefusal>
+        ensures literals { IfOk result (λ m. m.literals ≡ self.now.literals ++ record { sign = true; atom = Ends (run k self.now.store) } ∷ []) }
         ensures store { IfOk result (λ m. m.store ≡ run k self.now.store) }
-        ensures err { IfErr result (λ r. RefusesNodes (literals_nodes (self.now.literals ++ record { sign = ends; atom = Ends (run k self.now.store) } ∷ []) + store_nodes (run k self.now.store)) r) }
+        ensures err { IfErr result (λ r. RefusesNodes (literals_nodes (self.now.literals ++ record { sign = true; atom = Ends (run k self.now.store) } ∷ []) + store_nodes (run k self.now.store)) r) }
     {
         let of_store = self.of_store + 1;
         let of_literals = self.of_literals + (of_store + 1);
@@ -203,7 +203,7 @@ impl Met {
             return Err(PathRefusal::Limit(LimitKind::PathNodes));
         }
         let store = ended(alloc, k, &self.store)?;
-        let literals = with_end(alloc, self.literals.as_slice(), ends, &store)?;
+        let literals = with_end(alloc, self.literals.as_slice(), true, &store)?;
         Ok(Met {
             literals,
             of_literals,

@@ -1,17 +1,15 @@
 //! The walks of a side from a point, built one after another, in order.
 //! `specs/Walks.antt` says which they are, `specs/PathAnswers.antt` what is answered.
 
-ghost use Rattle.std.specs.Prelude.{◌≡◌, ◌+◌, ◌^◌, ◌<◌, nat_lt, suc, true, false, [], ◌∷◌, ◌++◌, flat_map};
+ghost use Rattle.std.specs.Prelude.{◌≡◌, ◌+◌, ◌^◌, ◌<◌, suc, true, false, [], ◌∷◌, ◌++◌, flat_map};
 ghost use Rattle.std.specs.List.{list_any};
 ghost use Rattle.toy_imp.specs.Block.{empty, stmt};
 ghost use Rattle.toy_imp.specs.ExprView.{exprs_of};
 ghost use Rattle.toy_imp.specs.Points.{stmt_count};
-ghost use Rattle.rule_terms.specs.Counts.{store_nodes, literals_nodes};
 ghost use Rattle.rule_terms.specs.Term.{put, run};
 ghost use Rattle.rule_terms.specs.ValueAt.{is_open, names_are_open, all_names_are_open, number_of, value_at, values_at};
 ghost use Rattle.rule_terms.specs.declared.obligation.Atom.TheVariants.{Ends};
-ghost use Rattle.rule_terms.specs.declared.path.Stop.TheVariants.{Halted, Stuck};
-ghost use Rattle.path_pairs.specs.NodeCounts.{outcome_nodes};
+ghost use Rattle.rule_terms.specs.declared.path.Stop.TheVariants.{Stuck};
 ghost use Rattle.path_pairs.specs.Open.{test_is_open};
 ghost use Rattle.path_pairs.specs.Outcomes.{outcomes};
 ghost use Rattle.path_pairs.specs.PathAnswers.{Adds};
@@ -21,9 +19,9 @@ ghost use Rattle.path_pairs.specs.Walkable.{IsWalkable, AreWalkable};
 ghost use Rattle.path_pairs.specs.Walks.{stands, by_each, halting_paths, stmt_step, stmt_stop, rest_stop, rest_step, walks, goes_on};
 
 use crate::along::{block_points, is_cut};
-use crate::met::{MOST_NODES, Met};
-use crate::node_counts::outcome_nodes;
+use crate::met::Met;
 use crate::refusal::PathRefusal;
+use crate::stopped::{add_halted, add_path, add_stuck, is_too_large};
 use crate::stretch::{Stretch, in_front, stands_next};
 use crate::test_outcome::outcomes;
 use rule_terms::{LimitKind, Literal, Path, Stop};
@@ -75,23 +73,6 @@ fn rest_stop(cuts: &[u32], exit: u32, rest: &[Stretch<'_>]) -> Option<Stop>
     }
 }
 
-// Adds the path of a walk that stops.
-fn add_path(all: &mut Items<Path>, met: Met, stop: Stop) -> Result<(), PathRefusal>
-    ensures { Adds (record { literals = met.literals; store = met.store; stop = stop } ∷ []) all.old all.new result }
-{
-    let Met {
-        literals,
-        store,
-        ..
-    } = met;
-    all.push(Path {
-        literals,
-        store,
-        stop,
-    })?;
-    Ok(())
-}
-
 // The statements of a block, whose first point has the number.
 fn inside<'a>(first: u64, b: &'a Block) -> Stretch<'a>
     ensures { stretch_of result ≡ stretch first b.now }
@@ -100,57 +81,6 @@ fn inside<'a>(first: u64, b: &'a Block) -> Stretch<'a>
         first,
         stmts: b.stmts.as_slice(),
     }
-}
-
-// Adds the path of a walk that is stuck in a statement parameter.
-fn add_stuck(alloc: Global, met: &Met, k: u32, all: &mut Items<Path>) -> Result<(), PathRefusal>
-    ensures { Adds (record { literals = met.now.literals ++ record { sign = false; atom = Ends (run k met.now.store) } ∷ []; store = met.now.store; stop = Stuck k } ∷ []) all.old all.new result }
-{
-    match met.stuck(alloc, k) {
-        Ok(stuck) => add_path(all, stuck, Stop::Stuck(k)),
-        Err(e) => Err(e),
-    }
-}
-
-// Whether some outcome of a test makes a walk of too many nodes.
-fn is_too_large(met: &Met, t: &Test, way: bool) -> bool
-    ensures { result ≡ nat_lt 4096 (literals_nodes met.now.literals + store_nodes met.now.store + outcome_nodes t.now way (store_nodes met.now.store)) }
-{
-    let most = outcome_nodes(t, met.of_store);
-    let most = if way { most.when_true } else { most.when_false };
-    (met.of_literals + met.of_store).saturating_add(most) > MOST_NODES
-}
-
-// Adds the paths that halt, one for each outcome in which the test of an `assert` is false, in order.
-fn add_halted(
-    alloc: Global,
-    met: &Met,
-    t: &Test,
-    all: &mut Items<Path>,
-) -> Result<(), PathRefusal>
-    requires { test_is_open t.now ≡ true }
-    ensures { Adds (halting_paths (outcomes t.now false met.now.store) met.now.literals met.now.store) all.old all.new result }
-{
-    if is_too_large(met, t, false) {
-        return Err(PathRefusal::Limit(LimitKind::PathNodes));
-    }
-    let found = outcomes(alloc, t, false, &met.store)?;
-    add_each(alloc, met, found.as_slice(), all)
-}
-
-fn add_each(
-    alloc: Global,
-    met: &Met,
-    found: &[Items<Literal>],
-    all: &mut Items<Path>,
-) -> Result<(), PathRefusal>
-    ensures { Adds (halting_paths found.now met.now.literals met.now.store) all.old all.new result }
-{
-    for outcome in found {
-        let next = met.with(alloc, outcome.as_slice())?;
-        add_path(all, next, Stop::Halted)?;
-    }
-    Ok(())
 }
 
 // Adds the paths of the walks on from a walk, up to so many steps more, none of which goes on then.
@@ -304,7 +234,7 @@ fn walk_ended(
     requires ends { goes_on (suc course.steps) course.cuts.now course.exit (stands (met.now.literals ++ record { sign = true; atom = Ends (run k met.now.store) } ∷ []) (run k met.now.store) (rest_of behind.now)) ≡ false }
     ensures { Adds (walks course.entry.steps course.entry.cuts.now course.entry.exit (stands (met.now.literals ++ record { sign = true; atom = Ends (run k met.now.store) } ∷ []) (run k met.now.store) (rest_of behind.now))) all.old all.new result }
 {
-    match met.run(alloc, k, true) {
+    match met.run(alloc, k) {
         Ok(ended) => walk(alloc, course, ended, behind, all),
         Err(e) => Err(e),
     }

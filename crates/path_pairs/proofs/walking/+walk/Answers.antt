@@ -1,5 +1,5 @@
 use Rattle.std.proofs.Common.{◌≡◌, ◌+◌, suc, ◌∷◌, refl, sym, ◌∙◌, ap, subst, arith}
-use Rattle.toy_imp.specs.Block.{put, if_then, while_do}
+use Rattle.toy_imp.specs.Block.{put, assert_that, if_then, while_do}
 use Rattle.toy_imp.specs.BlockView.{stmt_of, block_of}
 use Rattle.toy_imp.specs.ExprView.{exprs_of}
 use Rattle.toy_imp.specs.Points.{point_count}
@@ -8,7 +8,7 @@ use Rattle.path_pairs.specs.Walkable.{IsWalkable}
 use Rattle.path_pairs.specs.Stretches.{rest_of}
 use Rattle.path_pairs.proofs.Adding.{walk_refused, large_way}
 use Rattle.path_pairs.proofs.FromNext.{step_none, alone_walkable, here_walkable}
-use Rattle.path_pairs.proofs.WalkedOn.{walk_stops, walk_ends, walk_goes_on, step_ends, none_stands, stmt_ends, stmt_adds, others_are, one_ends, one_adds, same_ends, same_adds, skip_step, put_step, if_step, while_step, par_ends, par_adds, PutOpen, put_open, IfWalkable, if_walkable, WhileWalkable, while_walkable, stretched}
+use Rattle.path_pairs.proofs.WalkedOn.{walk_stops, walk_ends, walk_goes_on, step_ends, none_stands, stmt_ends, stmt_adds, others_are, one_ends, one_adds, same_ends, same_adds, skip_step, put_step, if_step, while_step, assert_open, assert_ends, assert_adds, par_ends, par_adds, PutOpen, put_open, IfWalkable, if_walkable, WhileWalkable, while_walkable, stretched}
 use Rattle.path_pairs.proofs.walking.+walk.Goals as goal
 
 pub walk-returns-in-Some : goal.walk-returns-in-Some
@@ -102,6 +102,25 @@ walk_stmt-returns-in-Put t c =
     sym c.s.view_is ∙ ap stmt_of c.in-Put.is ∙ ap (λ es. put c.in-Put.x (exprs_of es) c.in-Put.e) (sym c.as_slice.ensures) in
     one_adds c.args.course.steps c.args.course.cuts.now c.args.course.exit _ _ c.args.all.now c.walk_write.new.all c.walk_write.result
     (put_step c.args.n c.args.s.now c.in-Put.x (exprs_of c.as_slice.result.now) c.in-Put.e (rest_of c.args.here.now) (rest_of c.args.behind.now) c.args.met.literals c.args.met.store is) c.walk_write.ensures
+
+pub walk_stmt-walk_assert-requires : goal.walk_stmt-walk_assert-requires
+walk_stmt-walk_assert-requires t c =
+    let is : c.args.s.now ≡ assert_that c.in-Assert.t = sym c.s.view_is ∙ ap stmt_of c.in-Assert.is in (
+      grind arith,
+      (
+        assert_open c.args.n c.args.s.now c.in-Assert.t is c.requires.s,
+        (
+          c.requires.behind,
+          assert_ends c.args.course.steps c.args.course.cuts.now c.args.course.exit c.args.n c.args.s.now c.in-Assert.t (rest_of c.args.here.now) (rest_of c.args.behind.now) c.args.met.literals c.args.met.store is
+              c.requires.ends,
+        ),
+      ),
+    )
+
+pub walk_stmt-returns-in-Assert : goal.walk_stmt-returns-in-Assert
+walk_stmt-returns-in-Assert t c =
+    assert_adds c.args.course.steps c.args.course.cuts.now c.args.course.exit c.args.n c.args.s.now c.in-Assert.t (rest_of c.args.here.now) (rest_of c.args.behind.now) c.args.met.literals c.args.met.store c.args.all.now
+    c.walk_assert.new.all c.walk_assert.result (sym c.s.view_is ∙ ap stmt_of c.in-Assert.is) c.walk_assert.ensures
 
 pub walk_stmt-walk_test-requires : goal.walk_stmt-walk_test-requires
 walk_stmt-walk_test-requires t c =

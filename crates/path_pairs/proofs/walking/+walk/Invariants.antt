@@ -24,6 +24,9 @@ decreases-walk_way l = 7 * l.course.steps + 3
 abbrev pub decreases-walk_test : goal.decreases-walk_test
 decreases-walk_test l = 7 * l.course.steps + 4
 
+abbrev pub decreases-walk_assert : goal.decreases-walk_assert
+decreases-walk_assert l = 7 * l.course.steps + 4
+
 abbrev pub decreases-walk_run : goal.decreases-walk_run
 decreases-walk_run l = 7 * l.course.steps + 4
 

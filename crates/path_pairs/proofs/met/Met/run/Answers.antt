@@ -1,4 +1,4 @@
-use Rattle.std.proofs.Common.{◌≡◌, ◌+◌, [], ◌∷◌, ◌++◌, refl, sym, ◌∙◌, ap, arith}
+use Rattle.std.proofs.Common.{◌≡◌, ◌+◌, true, [], ◌∷◌, ◌++◌, refl, sym, ◌∙◌, ap, arith}
 use Rattle.rule_terms.specs.Counts.{store_nodes, literals_nodes}
 use Rattle.rule_terms.specs.Term.{run}
 use Rattle.rule_terms.specs.declared.obligation.Atom.TheVariants.{Ends}
@@ -11,7 +11,7 @@ returns-then-nodes-gt-MOST_NODES-clause-err c = (
   refl,
   large_test _ (omega (
     arith,
-    end_nodes c.args.self.now.literals c.args.ends c.args.k c.args.self.now.store,
+    end_nodes c.args.self.now.literals true c.args.k c.args.self.now.store,
     run_nodes c.args.k c.args.self.now.store,
     c.args.self.now.literals_counted,
     c.args.self.now.store_counted,
@@ -21,10 +21,10 @@ returns-then-nodes-gt-MOST_NODES-clause-err c = (
 
 pub invariant_of-result : goal.invariant_of-result
 invariant_of-result c =
-    let all : c.in_ok-literals.literals ≡ c.args.self.now.literals ++ record { sign = c.args.ends; atom = Ends (run c.args.k c.args.self.now.store) } ∷ [] =
-    with_end_is c.in_ok-literals.literals c.args.self.now.literals c.as_slice.result.now c.args.ends c.args.k c.args.self.now.store c.in_ok-store.store c.in_ok-literals.ensures c.as_slice.ensures c.in_ok-store.ensures in
-    let literals : c.args.self.now.of_literals + (c.args.self.now.of_store + 1 + 1) ≡ literals_nodes (c.args.self.now.literals ++ record { sign = c.args.ends; atom = Ends (run c.args.k c.args.self.now.store) } ∷ []) =
-    omega (arith, end_nodes c.args.self.now.literals c.args.ends c.args.k c.args.self.now.store, c.args.self.now.literals_counted, c.args.self.now.store_counted) in
+    let all : c.in_ok-literals.literals ≡ c.args.self.now.literals ++ record { sign = true; atom = Ends (run c.args.k c.args.self.now.store) } ∷ [] =
+    with_end_is c.in_ok-literals.literals c.args.self.now.literals c.as_slice.result.now true c.args.k c.args.self.now.store c.in_ok-store.store c.in_ok-literals.ensures c.as_slice.ensures c.in_ok-store.ensures in
+    let literals : c.args.self.now.of_literals + (c.args.self.now.of_store + 1 + 1) ≡ literals_nodes (c.args.self.now.literals ++ record { sign = true; atom = Ends (run c.args.k c.args.self.now.store) } ∷ []) =
+    omega (arith, end_nodes c.args.self.now.literals true c.args.k c.args.self.now.store, c.args.self.now.literals_counted, c.args.self.now.store_counted) in
     let store : c.args.self.now.of_store + 1 ≡ store_nodes (run c.args.k c.args.self.now.store) = omega (arith, run_nodes c.args.k c.args.self.now.store, c.args.self.now.store_counted) in
     record {
       literals_counted = literals ∙ ap literals_nodes (sym all);
