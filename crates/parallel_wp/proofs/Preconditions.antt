@@ -1,22 +1,29 @@
--- What the precondition of a conjunct means: what the conjunct means where the paths arrive.
-use Rattle.std.proofs.Common.{◌≡◌, Bool, true, ◌&&◌, ◌||◌, not, List, [], ◌∷◌, ◌++◌, refl, ap, ◌∙◌, option_map}
-use Rattle.std.proofs.lemmas.Bool.{and_parts}
+-- What the precondition of a conjunct means: what the conjunct means where the paths arrive, and nothing where they are not taken.
+use Rattle.std.proofs.Common.{◌≡◌, ◌&&◌, ◌||◌, not, ap, ◌∙◌}
+use Rattle.std.proofs.lemmas.List.Folds.{list_all-append}
+use Rattle.toy_imp.specs.declared.instance.Instance.{Instance}
+use Rattle.toy_imp.specs.Store.{Store}
+use Rattle.std.specs.Prelude.{Bool, List}
 use Rattle.std.specs.List.{list_all}
-use Rattle.rule_terms.specs.declared.obligation.Literal.{Literal}
-use Rattle.rule_terms.specs.Substitute.{literal_at, literals_at}
-use Rattle.term_meaning.specs.Meaning.{literal_truth, gives_truth}
+use Rattle.rule_terms.specs.declared.obligation.Conjunct.{Conjunct}
+use Rattle.rule_terms.specs.declared.path.Path.{Path}
+use Rattle.term_meaning.specs.Table.{Entry}
+use Rattle.term_meaning.specs.Meaning.{literal_truth, gives_truth, conjunct_truth}
 use Rattle.term_meaning.proofs.Substituting.{conjunct_put}
-use Rattle.parallel_wp.specs.Precondition.{PreconditionMeans}
+use Rattle.parallel_wp.specs.Precondition.{both_literals, goal_at, precondition}
+use Rattle.parallel_wp.specs.PreconditionLaws.{both_taken, PreconditionMeans}
 
--- literals that are true change nothing in front of others
-past_true : (p : Literal → Bool) (xs ys : List Literal) → list_all p xs ≡ true → list_all p (xs ++ ys) ≡ list_all p ys
-past_true p [] ys h = refl
-past_true p (x ∷ xs) ys h =
-    ap (λ z. z && list_all p (xs ++ ys)) ((and_parts _ _ h).0) ∙ past_true p xs ys ((and_parts _ _ h).1)
+-- the literals of the paths stand in front of those of the goal
+in_front : (i : Instance) (T : List Entry) (l r : Store) (left right : Path) (c : Conjunct) (b : Bool) → both_taken i T l r left right ≡ b
+    → conjunct_truth i T l r (precondition left right c)
+    ≡ (not (b && list_all (literal_truth i T l r) (goal_at left right c).when) || gives_truth i T l r (goal_at left right c).gives)
+in_front i T l r left right c b e =
+    ap (λ z. not z || gives_truth i T l r (goal_at left right c).gives)
+    (list_all-append (literal_truth i T l r) (both_literals left right) (goal_at left right c).when
+    ∙ ap (λ z. z && list_all (literal_truth i T l r) (goal_at left right c).when) e)
 
 pub precondition_means : PreconditionMeans
-precondition_means i T l r m n left right at_left at_right is_m is_n c =
-    ap (λ z. not z || gives_truth i T l r (option_map (literal_at left.store right.store) c.gives))
-    (past_true (literal_truth i T l r) left.literals (right.literals ++ literals_at left.store right.store c.when) at_left
-    ∙ past_true (literal_truth i T l r) right.literals (literals_at left.store right.store c.when) at_right)
-    ∙ conjunct_put i T l r m n left.store right.store is_m is_n c
+precondition_means i T l r left right c = record {
+  taken = λ e m n is_m is_n. in_front i T l r left right c _ e ∙ conjunct_put i T l r m n left.store right.store is_m is_n c;
+  passed_by = λ e. in_front i T l r left right c _ e;
+}

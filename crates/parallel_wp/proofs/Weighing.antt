@@ -11,7 +11,7 @@ use Rattle.rule_terms.specs.declared.obligation.Literal.{Literal}
 use Rattle.rule_terms.specs.declared.obligation.Conjunct.{Conjunct}
 use Rattle.rule_terms.specs.declared.path.Path.{Path}
 use Rattle.rule_terms.proofs.Substitutions.{nodes_replaced}
-use Rattle.parallel_wp.specs.Precondition.{precondition}
+use Rattle.parallel_wp.specs.Precondition.{both_literals, precondition}
 use Rattle.parallel_wp.specs.Weight.{atom_weight, literals_weight, gives_weight, conjunct_weight}
 
 -- ---- counts that stood still before
@@ -71,7 +71,7 @@ gives_nodes_at : (l r : StoreTerm) (o : Option Literal) → gives_nodes (option_
 gives_nodes_at l r None = refl
 gives_nodes_at l r (Some x) = ap suc (atom_nodes_at l r x.atom)
 
-literals_nodes-append : (xs ys : List Literal) → literals_nodes (xs ++ ys) ≡ literals_nodes xs + literals_nodes ys
+pub literals_nodes-append : (xs ys : List Literal) → literals_nodes (xs ++ ys) ≡ literals_nodes xs + literals_nodes ys
 literals_nodes-append [] ys = omega arith
 literals_nodes-append (x ∷ xs) ys = omega (arith, literals_nodes-append xs ys)
 
@@ -83,8 +83,8 @@ pub weighed : (left right : Path) (c : Conjunct) →
 weighed left right c =
     omega (
       arith,
-      literals_nodes-append left.literals (right.literals ++ literals_at left.store right.store c.when),
-      literals_nodes-append right.literals (literals_at left.store right.store c.when),
+      literals_nodes-append (both_literals left right) (literals_at left.store right.store c.when),
+      literals_nodes-append left.literals right.literals,
       literals_nodes_at left.store right.store c.when,
       gives_nodes_at left.store right.store c.gives,
       literals_still (store_nodes left.store) (store_nodes right.store) c.when,

@@ -1,2 +1,4 @@
+pub mod Operators
 pub mod Precondition
+pub mod PreconditionLaws
 pub mod Weight

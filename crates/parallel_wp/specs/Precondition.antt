@@ -1,25 +1,21 @@
--- The precondition of a conjunct before a pair of paths: the literals of both paths and those of its `when`, and what it
--- gives, with the paths' stores in place of L and R.
-use Rattle.std.specs.Prelude.{◌≡◌, true, List, ◌++◌, Some, option_map}
-use Rattle.std.specs.List.{list_all}
-use Rattle.toy_imp.specs.declared.instance.Instance.{Instance}
-use Rattle.toy_imp.specs.Store.{Store}
+-- What has to be true at a pair of stores so that a conjunct is true where a pair of paths arrives.
+-- `goal_at` is the conjunct with the paths' stores in place of L and R; `precondition` asks it only where the literals of both
+-- paths are true.
+use Rattle.std.specs.Prelude.{List, ◌++◌}
 use Rattle.rule_terms.specs.declared.obligation.Conjunct.{Conjunct}
+use Rattle.rule_terms.specs.declared.obligation.Literal.{Literal}
 use Rattle.rule_terms.specs.declared.path.Path.{Path}
-use Rattle.rule_terms.specs.Substitute.{literal_at, literals_at}
-use Rattle.term_meaning.specs.Table.{Entry}
-use Rattle.term_meaning.specs.Meaning.{store_of, literal_truth, conjunct_truth}
+use Rattle.rule_terms.specs.Substitute.{conjunct_at}
+
+-- the literals of both paths, the left one's first
+abbrev pub both_literals : Path → Path → List Literal
+both_literals left right = left.literals ++ right.literals
+
+abbrev pub goal_at : Path → Path → Conjunct → Conjunct
+goal_at left right c = conjunct_at left.store right.store c
 
 abbrev pub precondition : Path → Path → Conjunct → Conjunct
 precondition left right c = record {
-  when = left.literals ++ (right.literals ++ literals_at left.store right.store c.when);
-  gives = option_map (literal_at left.store right.store) c.gives;
+  when = both_literals left right ++ (goal_at left right c).when;
+  gives = (goal_at left right c).gives;
 }
-
--- What it means, under each table of runs, right or wrong: where the literals of both paths are true at stores l and r, and
--- their terms mean m and n there, it is true at l and r exactly where the conjunct is true at m and n.
-abbrev pub PreconditionMeans : Type 0
-PreconditionMeans = (i : Instance) (T : List Entry) (l r m n : Store) (left right : Path)
-    → list_all (literal_truth i T l r) left.literals ≡ true → list_all (literal_truth i T l r) right.literals ≡ true
-    → store_of i T l r left.store ≡ Some m → store_of i T l r right.store ≡ Some n
-    → (c : Conjunct) → conjunct_truth i T l r (precondition left right c) ≡ conjunct_truth i T m n c

@@ -4,6 +4,7 @@
 ghost use Rattle.std.specs.Prelude.{◌≡◌, ◌++◌, IfOk, OnOk, option_map};
 ghost use Rattle.rule_terms.specs.TermView.{terms_of};
 ghost use Rattle.rule_terms.specs.Substitute.{store_at, value_term_at, terms_at, atom_at, literal_at, literals_at};
+ghost use Rattle.parallel_wp.specs.Operators.{joined_as};
 
 use rule_terms::{Atom, Literal, Place, StoreNode, StoreTerm, ValueNode, ValueTerm};
 use sqlite_items::Items;
@@ -61,21 +62,27 @@ pub fn value_at(
             let s = store_at(alloc, l, r, s.get())?;
             ValueTerm::ev(alloc, *k, s)
         }
-        ValueNode::Add(a, b) => {
+        ValueNode::Add(a, b) | ValueNode::Sub(a, b) | ValueNode::Mul(a, b) => {
             let a = value_at(alloc, l, r, a.get())?;
             let b = value_at(alloc, l, r, b.get())?;
-            ValueTerm::add(alloc, a, b)
+            joined_as(alloc, &v.node, a, b)
         }
-        ValueNode::Sub(a, b) => {
-            let a = value_at(alloc, l, r, a.get())?;
-            let b = value_at(alloc, l, r, b.get())?;
-            ValueTerm::sub(alloc, a, b)
-        }
-        ValueNode::Mul(a, b) => {
-            let a = value_at(alloc, l, r, a.get())?;
-            let b = value_at(alloc, l, r, b.get())?;
-            ValueTerm::mul(alloc, a, b)
-        }
+    }
+}
+
+/// Two value terms joined by the operator of a node: their difference, their product, or else their sum.
+fn joined_as(
+    alloc: Global,
+    node: &ValueNode,
+    a: ValueTerm,
+    b: ValueTerm,
+) -> Result<ValueTerm, NoMemory>
+    ensures { IfOk result (λ v. v ≡ joined_as node.now a b) }
+{
+    match node {
+        ValueNode::Sub(_, _) => ValueTerm::sub(alloc, a, b),
+        ValueNode::Mul(_, _) => ValueTerm::mul(alloc, a, b),
+        _ => ValueTerm::add(alloc, a, b),
     }
 }
 

@@ -12,7 +12,7 @@ use Rattle.toy_imp.specs.Store.{Store}
 use Rattle.toy_imp.specs.Value.{value}
 use Rattle.toy_imp.specs.Truth.{truth}
 use Rattle.toy_imp.specs.Run.{Outcome, ended, halted}
-use Rattle.toy_imp.specs.Ends.{ComesOut, Ends, EndAlike, IsQuiet}
+use Rattle.toy_imp.specs.Ends.{ComesOut, Ends, IsQuiet}
 use Rattle.toy_imp.specs.Fill.{name_by, expr_by, test_by, block_by, name_at, expr_at, test_at, block_at}
 use Rattle.toy_imp.specs.Keeps.{KeepsExpr, KeepsTest, KeepsName, ExprIgnores, TestIgnores, StmtIgnores, StmtsCommute, IsPositive, IsConstant}
 use Rattle.toy_imp.specs.Swaps.{SwapsOver}
