@@ -17,8 +17,8 @@ use Rattle.path_pairs.specs.declared.refusal.PathRefusal.{PathRefusal}
 use Rattle.path_pairs.specs.declared.refusal.PathRefusal.TheVariants.{Limit, NoMemory}
 use Rattle.path_pairs.specs.Along.{steps_from, number_from}
 use Rattle.path_pairs.specs.Open.{block_is_open}
-use Rattle.path_pairs.specs.PathAnswers.{PathsAnswer, Builds}
-use Rattle.path_pairs.specs.Paths.{side_of, cuts_of, store_of, paths, path_limit, side_paths, has_long_walk, walks_from, goes_on_from}
+use Rattle.path_pairs.specs.PathAnswers.{PathsAnswer, CountAnswer, Builds}
+use Rattle.path_pairs.specs.Paths.{side_of, cuts_of, store_of, is_long, paths, path_limit, side_paths, has_long_walk, walks_from, goes_on_from}
 use Rattle.path_pairs.specs.Rests.{Rest, stretch, stmt_rests, block_rests, rests, rest_at}
 use Rattle.path_pairs.specs.Walkable.{IsWalkable, AreWalkable}
 use Rattle.path_pairs.specs.Walks.{stands}
@@ -107,10 +107,10 @@ not_reached false m e h = refl
 near : (m found : ℕ) → found ≡ min 65 m → found ≤ 64 → m ≤ 64
 near m found e h = omega (arith, e, h)
 
-pub long_is : (side : Block) (cuts : List ℕ) (s : StoreTerm) (p found : ℕ) → found ≡ min 65 (steps_from p cuts (rest_at side p)) → 64 < found → has_long_walk side cuts s p ≡ true
+long_is : (side : Block) (cuts : List ℕ) (s : StoreTerm) (p found : ℕ) → found ≡ min 65 (steps_from p cuts (rest_at side p)) → 64 < found → has_long_walk side cuts s p ≡ true
 long_is side cuts s p found e h = long_exactly side cuts s p ∙ far (steps_from p cuts (rest_at side p)) found e h
 
-pub long_is_not : (side : Block) (cuts : List ℕ) (s : StoreTerm) (p found : ℕ) → found ≡ min 65 (steps_from p cuts (rest_at side p)) → found ≤ 64 → has_long_walk side cuts s p ≡ false
+long_is_not : (side : Block) (cuts : List ℕ) (s : StoreTerm) (p found : ℕ) → found ≡ min 65 (steps_from p cuts (rest_at side p)) → found ≤ 64 → has_long_walk side cuts s p ≡ false
 long_is_not side cuts s p found e h =
     long_exactly side cuts s p ∙ not_reached (reaches 65 (steps_from p cuts (rest_at side p))) (steps_from p cuts (rest_at side p)) refl (near (steps_from p cuts (rest_at side p)) found e h)
 
@@ -124,47 +124,39 @@ number_is : (side : Block) (cuts : List ℕ) (s : StoreTerm) (p steps : ℕ) →
     → length (side_paths side cuts s p) ≡ number_from p cuts (rest_at side p)
 number_is side cuts s p steps e h = as_many_paths side cuts s p (near (steps_from p cuts (rest_at side p)) steps e h)
 
-pub many_are : (side : Block) (cuts : List ℕ) (s : StoreTerm) (p steps found : ℕ) → steps ≡ min 65 (steps_from p cuts (rest_at side p)) → steps ≤ 64
-    → found ≡ saturated (number_from p cuts (rest_at side p)) → 512 < found → nat_lt 512 (length (side_paths side cuts s p)) ≡ true
-many_are side cuts s p steps found e h d k = many_test (length (side_paths side cuts s p)) (omega (arith, number_is side cuts s p steps e h, d, k))
+-- what is answered of their number
+pub counts_steps : (rule : Rule) (cuts : CutPoints) (side : Side) (p found : ℕ) → found ≡ min 65 (steps_from p (cuts_of cuts side) (rest_at (side_of rule side) p)) → 64 < found
+    → CountAnswer rule cuts side p (Err (Limit PathSteps))
+counts_steps rule cuts side p found e h = (long_is (side_of rule side) (cuts_of cuts side) (store_of side) p found e h, refl)
 
-pub many_are_not : (side : Block) (cuts : List ℕ) (s : StoreTerm) (p steps found : ℕ) → steps ≡ min 65 (steps_from p cuts (rest_at side p)) → steps ≤ 64
-    → found ≡ saturated (number_from p cuts (rest_at side p)) → found ≤ 512 → nat_lt 512 (length (side_paths side cuts s p)) ≡ false
-many_are_not side cuts s p steps found e h d k = few_test (length (side_paths side cuts s p)) (omega (arith, number_is side cuts s p steps e h, d, k))
+pub counts_paths : (rule : Rule) (cuts : CutPoints) (side : Side) (p steps found : ℕ) → steps ≡ min 65 (steps_from p (cuts_of cuts side) (rest_at (side_of rule side) p)) → steps ≤ 64
+    → found ≡ saturated (number_from p (cuts_of cuts side) (rest_at (side_of rule side) p)) → CountAnswer rule cuts side p (Ok found)
+counts_paths rule cuts side p steps found e h d = (
+  long_is_not (side_of rule side) (cuts_of cuts side) (store_of side) p steps e h,
+  d ∙ ap saturated (sym (number_is (side_of rule side) (cuts_of cuts side) (store_of side) p steps e h)),
+)
 
 -- what is answered
-pub answers_steps : (rule : Rule) (cuts : CutPoints) (side : Side) (p found : ℕ) → found ≡ min 65 (steps_from p (cuts_of cuts side) (rest_at (side_of rule side) p)) → 64 < found
-    → path_limit rule cuts side p ≡ Some PathSteps
-answers_steps rule cuts side p found e h = first_choice _ _ _ (long_is (side_of rule side) (cuts_of cuts side) (store_of side) p found e h)
+pub count_refused : (rule : Rule) (cuts : CutPoints) (side : Side) (p : ℕ) (e : PathRefusal) → CountAnswer rule cuts side p (Err e) → PathsAnswer rule cuts side p (Err e)
+count_refused rule cuts side p (Limit what) h = first_choice _ _ _ h.0 ∙ ap Some (sym h.1)
+count_refused rule cuts side p NoMemory h = tt
 
-pub answers_paths : (rule : Rule) (cuts : CutPoints) (side : Side) (p steps found : ℕ) → steps ≡ min 65 (steps_from p (cuts_of cuts side) (rest_at (side_of rule side) p)) → steps ≤ 64
-    → found ≡ saturated (number_from p (cuts_of cuts side) (rest_at (side_of rule side) p)) → 512 < found → path_limit rule cuts side p ≡ Some Paths
-answers_paths rule cuts side p steps found e h d k =
-    second_choice _ _ _ _ _ (long_is_not (side_of rule side) (cuts_of cuts side) (store_of side) p steps e h) (many_are (side_of rule side) (cuts_of cuts side) (store_of side) p steps found e h d k)
+pub answers_paths : (rule : Rule) (cuts : CutPoints) (side : Side) (p found : ℕ) → CountAnswer rule cuts side p (Ok found) → 512 < found → path_limit rule cuts side p ≡ Some Paths
+answers_paths rule cuts side p found c k = second_choice _ _ _ _ _ c.0 (many_test (length (paths rule cuts side p)) (omega (arith, c.1, k)))
 
-pub answers_built : (rule : Rule) (cuts : CutPoints) (side : Side) (p steps found : ℕ) (r : Result (List Path) PathRefusal)
-    → steps ≡ min 65 (steps_from p (cuts_of cuts side) (rest_at (side_of rule side) p)) → steps ≤ 64
-    → found ≡ saturated (number_from p (cuts_of cuts side) (rest_at (side_of rule side) p)) → found ≤ 512
+pub answers_built : (rule : Rule) (cuts : CutPoints) (side : Side) (p found : ℕ) (r : Result (List Path) PathRefusal) → CountAnswer rule cuts side p (Ok found) → found ≤ 512
     → Builds (paths rule cuts side p) r → PathsAnswer rule cuts side p r
-answers_built rule cuts side p steps found (Ok all) e h d k b = (
-  last_choice _ _ _ _ _ _ _ (long_is_not (side_of rule side) (cuts_of cuts side) (store_of side) p steps e h)
-      (many_are_not (side_of rule side) (cuts_of cuts side) (store_of side) p steps found e h d k) b.1,
-  b.0,
-)
-answers_built rule cuts side p steps found (Err (Limit what)) e h d k b =
-    third_choice _ _ _ _ _ _ _ (long_is_not (side_of rule side) (cuts_of cuts side) (store_of side) p steps e h)
-    (many_are_not (side_of rule side) (cuts_of cuts side) (store_of side) p steps found e h d k) b.1
-    ∙ ap Some (sym b.0)
-answers_built rule cuts side p steps found (Err NoMemory) e h d k b = tt
+answers_built rule cuts side p found (Ok all) c k b = (last_choice _ _ _ _ _ _ _ c.0 (few_test (length (paths rule cuts side p)) (omega (arith, c.1, k))) b.1, b.0)
+answers_built rule cuts side p found (Err (Limit what)) c k b =
+    third_choice _ _ _ _ _ _ _ c.0 (few_test (length (paths rule cuts side p)) (omega (arith, c.1, k))) b.1 ∙ ap Some (sym b.0)
+answers_built rule cuts side p found (Err NoMemory) c k b = tt
 
 -- the walks from a point, as the code has what stands there
-pub ends_from : (rule : Rule) (cuts : CutPoints) (side : Side) (p exit steps : ℕ) (ls : List Literal) (s : StoreTerm) (rest : Rest)
-    → steps ≡ min 65 (steps_from p (cuts_of cuts side) (rest_at (side_of rule side) p)) → steps ≤ 64
+pub ends_from : (rule : Rule) (cuts : CutPoints) (side : Side) (p exit : ℕ) (ls : List Literal) (s : StoreTerm) (rest : Rest) → is_long rule cuts side p ≡ false
     → ls ≡ [] → s ≡ store_of side → rest ≡ rest_at (side_of rule side) p → exit ≡ exit_point (side_of rule side)
     → goes_on_from p 64 (cuts_of cuts side) exit (stands ls s rest) ≡ false
 unfolding has_long_walk
-ends_from rule cuts side p exit steps ls s rest e h a b c d =
-    (λ i. goes_on_from p 64 (cuts_of cuts side) (d i) (stands (a i) (b i) (c i))) ∙ long_is_not (side_of rule side) (cuts_of cuts side) (store_of side) p steps e h
+ends_from rule cuts side p exit ls s rest h a b c d = (λ i. goes_on_from p 64 (cuts_of cuts side) (d i) (stands (a i) (b i) (c i))) ∙ h
 
 pub paths_from : (rule : Rule) (cuts : CutPoints) (side : Side) (p exit : ℕ) (ls : List Literal) (s : StoreTerm) (rest : Rest)
     → ls ≡ [] → s ≡ store_of side → rest ≡ rest_at (side_of rule side) p → exit ≡ exit_point (side_of rule side)

@@ -1,19 +1,26 @@
 -- What a call that walks answers: the paths in order, or the first limit that they pass. No memory is a free answer.
-use Rattle.std.specs.Prelude.{ℕ, ◌≡◌, nat_lt, true, false, List, ◌++◌, None, Some, Result, Ok, Err}
+use Rattle.std.specs.Prelude.{ℕ, ◌≡◌, nat_lt, true, false, List, ◌++◌, length, None, Some, Result, Ok, Err}
 use Rattle.std.specs.List.{list_any}
 use Rattle.toy_imp.specs.declared.rule.Rule.{Rule}
 use Rattle.rule_terms.specs.declared.path.Path.{Path}
-use Rattle.rule_terms.specs.declared.limit.LimitKind.TheVariants.{PathNodes}
+use Rattle.rule_terms.specs.Counts.{saturated}
+use Rattle.rule_terms.specs.declared.limit.LimitKind.TheVariants.{PathSteps, PathNodes}
 use Rattle.path_pairs.specs.declared.cut_points.CutPoints.{CutPoints}
 use Rattle.path_pairs.specs.declared.cut_points.Side.{Side}
 use Rattle.path_pairs.specs.declared.refusal.PathRefusal.{PathRefusal}
 use Rattle.path_pairs.specs.declared.refusal.PathRefusal.TheVariants.{Limit, NoMemory}
-use Rattle.path_pairs.specs.Paths.{is_large_path, paths, path_limit}
+use Rattle.path_pairs.specs.Paths.{is_large_path, is_long, paths, path_limit}
 
 abbrev pub PathsAnswer : Rule → CutPoints → Side → ℕ → Result (List Path) PathRefusal → Type 0
 PathsAnswer rule cuts side p (Ok all) = (path_limit rule cuts side p ≡ None) × (all ≡ paths rule cuts side p)
 PathsAnswer rule cuts side p (Err (Limit what)) = path_limit rule cuts side p ≡ Some what
 PathsAnswer rule cuts side p (Err NoMemory) = Unit {0}
+
+-- What a call that counts them answers: how many they are, or that some walk is too long.
+abbrev pub CountAnswer : Rule → CutPoints → Side → ℕ → Result ℕ PathRefusal → Type 0
+CountAnswer rule cuts side p (Ok n) = (is_long rule cuts side p ≡ false) × (n ≡ saturated (length (paths rule cuts side p)))
+CountAnswer rule cuts side p (Err (Limit what)) = (is_long rule cuts side p ≡ true) × (what ≡ PathSteps)
+CountAnswer rule cuts side p (Err NoMemory) = Unit {0}
 
 -- A walk of so many nodes is refused.
 abbrev pub RefusesNodes : ℕ → PathRefusal → Type 0

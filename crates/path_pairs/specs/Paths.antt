@@ -66,5 +66,8 @@ first_limit long all =
 abbrev pub paths : Rule → CutPoints → Side → ℕ → List Path
 paths rule cuts side p = side_paths (side_of rule side) (cuts_of cuts side) (store_of side) p
 
+abbrev pub is_long : Rule → CutPoints → Side → ℕ → Bool
+is_long rule cuts side p = has_long_walk (side_of rule side) (cuts_of cuts side) (store_of side) p
+
 abbrev pub path_limit : Rule → CutPoints → Side → ℕ → Option LimitKind
-path_limit rule cuts side p = first_limit (has_long_walk (side_of rule side) (cuts_of cuts side) (store_of side) p) (paths rule cuts side p)
+path_limit rule cuts side p = first_limit (is_long rule cuts side p) (paths rule cuts side p)

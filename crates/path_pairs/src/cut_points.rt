@@ -1,7 +1,11 @@
 //! The sides of a rule, and where walks over them stop: cut points, after Floyd, with the pairs that a proof by
 //! simulation relates.
 
+ghost use Rattle.std.specs.Prelude.{◌≡◌, IfOk};
+
 use sqlite_items::Items;
+use std::alloc::Global;
+use toy_imp::NoMemory;
 
 /// A side of a rule.
 #[derive(Clone, Copy, Debug, PartialEq, Eq)]
@@ -20,4 +24,16 @@ pub struct CutPoints {
     /// The entries: a point of the left side and one of the right side each. The first is the pair of
     /// starts, the second the pair of exits.
     pub pairs: Items<(u32, u32)>,
+}
+
+impl CutPoints {
+    /// The same cut points and entries.
+    pub fn copy(&self, alloc: Global) -> Result<CutPoints, NoMemory>
+        ensures { IfOk result (λ points. points ≡ self.now) }
+    {
+        let left = Items::from_slice(alloc, self.left.as_slice())?;
+        let right = Items::from_slice(alloc, self.right.as_slice())?;
+        let pairs = Items::from_slice(alloc, self.pairs.as_slice())?;
+        Ok(CutPoints { left, right, pairs })
+    }
 }

@@ -21,5 +21,5 @@ pub use along::block_points;
 pub use counting::{OutcomeCounts, outcome_counts};
 pub use cut_points::{CutPoints, Side};
 pub use refusal::PathRefusal;
-pub use side_paths::paths;
+pub use side_paths::{path_count, paths};
 pub use test_outcome::outcomes;

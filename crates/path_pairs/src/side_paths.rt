@@ -1,10 +1,10 @@
-//! The paths of a side of a rule from a point. Limits of steps and of their number are decided before any
-//! path is built. `specs/Paths.antt` says which paths there are, `specs/PathAnswers.antt` what is answered.
+//! The paths of a side of a rule from a point, and how many they are. Limits of steps and of their number are
+//! decided before any path is built. `specs/Paths.antt` says which paths there are, `specs/PathAnswers.antt` what is answered.
 
 ghost use Rattle.std.specs.Prelude.{◌≡◌, ◌^◌, ◌<◌, true, false, IfSome};
 ghost use Rattle.toy_imp.specs.Faults.{well_formed, is_simulate};
 ghost use Rattle.toy_imp.specs.Points.{exit_point};
-ghost use Rattle.path_pairs.specs.PathAnswers.{PathsAnswer, Adds, Builds};
+ghost use Rattle.path_pairs.specs.PathAnswers.{PathsAnswer, CountAnswer, Adds, Builds};
 ghost use Rattle.path_pairs.specs.Paths.{side_of, cuts_of, walks_from, goes_on_from};
 ghost use Rattle.path_pairs.specs.Rests.{rest_at};
 ghost use Rattle.path_pairs.specs.Stretches.{rest_of};
@@ -112,6 +112,27 @@ fn built(
     }
 }
 
+// How many paths there are from a point where this stands, if none makes too many steps.
+fn counted(
+    rule: &Rule,
+    cuts: &CutPoints,
+    side: Side,
+    from: u32,
+    rest: &[Stretch<'_>],
+) -> Result<u64, PathRefusal>
+    requires at { rest_of rest.now ≡ rest_at (side_of rule.now side) from }
+    requires rest { AreWalkable (rest_of rest.now) }
+    ensures { CountAnswer rule.now cuts.now side from result }
+{
+    let cut = side_cuts(cuts, side);
+    let steps = steps_from(cut, from, rest);
+    if steps > MOST_STEPS {
+        return Err(PathRefusal::Limit(LimitKind::PathSteps));
+    }
+    let number = number_from(cut, from, rest);
+    Ok(number)
+}
+
 // The paths of the side from a point where this stands, once they are not too long and not too many.
 fn limited(
     alloc: Global,
@@ -127,22 +148,23 @@ fn limited(
     requires rest { AreWalkable (rest_of rest.now) }
     ensures { PathsAnswer rule.now cuts.now side from result }
 {
-    let cut = side_cuts(cuts, side);
-    let steps = steps_from(cut, from, rest);
-    if steps > MOST_STEPS {
-        return Err(PathRefusal::Limit(LimitKind::PathSteps));
+    match counted(rule, cuts, side, from, rest) {
+        Err(e) => Err(e),
+        Ok(number) => {
+            if number > MOST_PATHS {
+                return Err(PathRefusal::Limit(LimitKind::Paths));
+            }
+            let cut = side_cuts(cuts, side);
+            let met = Met::start(alloc, side);
+            built(alloc, cut, exit, from, met, rest)
+        }
     }
-    let number = number_from(cut, from, rest);
-    if number > MOST_PATHS {
-        return Err(PathRefusal::Limit(LimitKind::Paths));
-    }
-    let met = Met::start(alloc, side);
-    built(alloc, cut, exit, from, met, rest)
 }
 
 /// The paths of a side of a rule from a point before its exit, in order; or the first limit that they
 /// pass, of 64 steps, of 512 paths or of 4,096 nodes. The rule is well formed and of method simulate.
 /// `NoMemory` comes where memory runs out, or where the side has more points than 32 bits number.
+/// The cut points are taken as they are given: no entry is searched.
 pub fn paths(
     alloc: Global,
     rule: &Rule,
@@ -161,6 +183,30 @@ pub fn paths(
         Some(exit) => {
             let rest = rest_at(alloc, block, from)?;
             limited(alloc, rule, cuts, side, exit, from, rest.as_slice())
+        }
+    }
+}
+
+/// How many paths there are from a point, up to 2^64 - 1; or `Limit(PathSteps)` where some walk makes 65
+/// steps before it stops. None is built. The conditions are those of `paths`, and so is `NoMemory`.
+pub fn path_count(
+    alloc: Global,
+    rule: &Rule,
+    cuts: &CutPoints,
+    side: Side,
+    from: u32,
+) -> Result<u64, PathRefusal>
+    requires well_formed { well_formed rule.now ≡ true }
+    requires simulates { is_simulate rule.now.method ≡ true }
+    requires inside { from < exit_point (side_of rule.now side) }
+    ensures { CountAnswer rule.now cuts.now side from result }
+{
+    let block = side_block(rule, side);
+    match exit_number(block) {
+        None => Err(PathRefusal::NoMemory),
+        Some(_) => {
+            let rest = rest_at(alloc, block, from)?;
+            counted(rule, cuts, side, from, rest.as_slice())
         }
     }
 }
