@@ -6,6 +6,7 @@ mod diff;
 mod paths;
 mod refutes;
 mod rows;
+mod run;
 mod terms;
 mod texts;
 
@@ -33,6 +34,9 @@ fn main(rt: HostRuntime) -> ExitCode {
         [name] if name.as_str() == "rules" => ExitCode::from(texts::rule(&rt)),
         [name] if name.as_str() == "diff" => ExitCode::from(status(&rt, diff::run(&rt))),
         [name] if name.as_str() == "rows" => ExitCode::from(status(&rt, rows::run(&rt))),
+        [name, steps] if name.as_str() == "run" => {
+            ExitCode::from(status(&rt, run::run(&rt, steps.as_str())))
+        }
         [name, times] if name.as_str() == "paths" => {
             ExitCode::from(status(&rt, paths::run(&rt, times.as_str())))
         }
