@@ -5,9 +5,11 @@ use Rattle.std.proofs.Common.{sym, ◌∙◌, ap, arith}
 use Rattle.std.proofs.lemmas.Bool.Decides.{nat_tests}
 use Rattle.std.specs.List.{list_all}
 use Rattle.std.proofs.lemmas.List.Folds.{list_all-append}
-use Rattle.toy_imp.specs.Faults.{same_pair, is_simulate, well_formed, is_inside, cuts_nothing, lists_cuts, has_wrong_cuts, repeats_name, uses_undeclared, misplaces_parameter, omits_parameter, simulates_scopes, is_too_large, repeats_pair}
+use Rattle.toy_imp.specs.Faults.{same_pair, is_simulate, may_list_cuts, well_formed, is_inside, cuts_nothing, lists_cuts, has_wrong_cuts, repeats_name, uses_undeclared, misplaces_parameter, omits_parameter, simulates_scopes, is_too_large, repeats_pair}
 use Rattle.toy_imp.specs.Points.{exit_point}
 use Rattle.toy_imp.specs.declared.rule.Rule.{Rule}
+use Rattle.toy_imp.specs.declared.rule.Method.{Method}
+use Rattle.toy_imp.specs.declared.rule.Method.TheVariants.{Simulate, Permute, Chain, Tile}
 use Rattle.toy_imp.specs.declared.rule.CutList.{CutList}
 use Rattle.toy_imp.specs.declared.rule.CutList.TheVariants.{Default, Listed}
 use Rattle.rule_terms.specs.declared.path.Path.{Path}
@@ -72,8 +74,15 @@ right_cuts_listed : (rule : Rule) → well_formed rule ≡ true → has_wrong_cu
 unfolding well_formed
 right_cuts_listed rule h = sixth (repeats_name rule.params) (uses_undeclared rule) (misplaces_parameter rule) (omits_parameter rule) (simulates_scopes rule) (has_wrong_cuts rule) (is_too_large rule) h
 
-cuts_something : (rule : Rule) → well_formed rule ≡ true → is_simulate rule.method ≡ true → cuts_nothing rule.cuts rule.left rule.right ≡ false
-cuts_something rule h g = sym (ap (λ b. cond b (cuts_nothing rule.cuts rule.left rule.right) (lists_cuts rule.cuts)) g) ∙ right_cuts_listed rule h
+simulates_lists : (m : Method) → is_simulate m ≡ true → may_list_cuts m ≡ true
+simulates_lists Simulate h = refl
+simulates_lists Permute h = cc
+simulates_lists Chain h = cc
+simulates_lists Tile h = cc
+
+pub cuts_something : (rule : Rule) → well_formed rule ≡ true → is_simulate rule.method ≡ true → cuts_nothing rule.cuts rule.left rule.right ≡ false
+cuts_something rule h g =
+    sym (ap (λ b. cond b (cuts_nothing rule.cuts rule.left rule.right) (lists_cuts rule.cuts)) (simulates_lists rule.method g)) ∙ right_cuts_listed rule h
 
 neither : (x y : Bool) → (not x || y) ≡ false → x ≡ true
 neither true y h = refl
@@ -132,7 +141,7 @@ meetings_may rule (l ∷ lefts) rights =
     list_all-append (may_be_entry rule) (right_meetings (rule_table rule) l.stop rights) (meetings (rule_table rule) lefts rights)
     ∙ (λ i. right_may rule l.stop rights i && meetings_may rule lefts rights i)
 
-found_may : (rule : Rule) (list : CutList) (lefts rights : List Path) → list_all (may_be_entry rule) (found list (arrivals rule lefts rights)) ≡ true
+pub found_may : (rule : Rule) (list : CutList) (lefts rights : List Path) → list_all (may_be_entry rule) (found list (arrivals rule lefts rights)) ≡ true
 found_may rule Default lefts rights = ap (list_all (may_be_entry rule)) (sym (meetings_are rule lefts rights)) ∙ meetings_may rule lefts rights
 found_may rule (Listed pairs) lefts rights = refl
 

@@ -20,7 +20,7 @@ use Rattle.entry_pairs.specs.CutAnswers.{marked, entered_or_mark, paired, rule_t
 use Rattle.entry_pairs.proofs.KindsOfPoints.{meetings_are}
 
 -- entries, or the mark of a limit
-abbrev Searched : Type 0
+abbrev pub Searched : Type 0
 Searched = Result (List (ℕ × ℕ)) LimitMark
 
 -- all entries once one is walked: by whether it is the exits, by its limit, and by what is entered
@@ -77,14 +77,14 @@ pub not_exits : (rule : Rule) (table : PointTable) (a : ℕ × ℕ) (b same : Bo
 not_exits rule table a b same k e h = ap (λ (x : PointTable). same_pair a x.exits) (sym k) ∙ sym e ∙ h
 
 -- all entries from one on: by the entry, and by the entries once it is walked
-abbrev walked_by : ℕ → Rule → CutPoints → ℕ → List (ℕ × ℕ) → Option (ℕ × ℕ) → Searched
+abbrev pub walked_by : ℕ → Rule → CutPoints → ℕ → List (ℕ × ℕ) → Option (ℕ × ℕ) → Searched
 walked_by n rule points i entries o =
     elim o as (λ o. Searched) [
       | None ↦ Ok entries
       | Some a ↦ elim (entries_after rule points i a entries) as (λ r. Searched) [ Ok more ↦ walked n rule points (suc i) more | Err m ↦ Err m ]
     ]
 
-abbrev then_walked : ℕ → Rule → CutPoints → ℕ → Searched → Searched
+abbrev pub then_walked : ℕ → Rule → CutPoints → ℕ → Searched → Searched
 then_walked n rule points i r = elim r as (λ r. Searched) [ Ok more ↦ walked n rule points (suc i) more | Err m ↦ Err m ]
 
 one_more : (rule : Rule) (points : CutPoints) (i : ℕ) (entries : List (ℕ × ℕ)) → i < 64

@@ -1,18 +1,20 @@
 -- Worked examples of paths and of cut points.
--- Loops with statement parameters, tests in a row, listed cuts, and the limits of steps, paths and pairs.
-use Rattle.std.specs.Prelude.{◌≡◌, ℕ, zero, suc, Bool, true, false, [], ◌∷◌, Ok, Err, refl}
-use Rattle.toy_imp.specs.Block.{Stmt, skip, if_then, while_do, par_stmt, Block, empty, stmt}
+-- Loops with statement parameters, tests in a row, listed cuts, the limits of steps, paths and pairs, and walks that halt.
+use Rattle.std.specs.Prelude.{◌≡◌, ℕ, zero, suc, Bool, true, false, List, [], ◌∷◌, Ok, Err, refl}
+use Rattle.toy_imp.specs.Block.{Stmt, skip, assert_that, if_then, while_do, par_stmt, Block, empty, stmt}
 use Rattle.toy_imp.specs.Test.{Test, par_test}
 use Rattle.toy_imp.specs.declared.rule.Rule.{Rule}
 use Rattle.toy_imp.specs.declared.rule.Method.TheVariants.{Simulate}
 use Rattle.toy_imp.specs.declared.rule.CutList.{CutList}
 use Rattle.toy_imp.specs.declared.rule.CutList.TheVariants.{Default, Listed}
-use Rattle.rule_terms.specs.Term.{left_store, run}
+use Rattle.rule_terms.specs.Term.{StoreTerm, left_store, run}
 use Rattle.rule_terms.specs.Counts.{store_nodes, atom_nodes}
 use Rattle.rule_terms.specs.declared.obligation.Atom.{Atom}
 use Rattle.rule_terms.specs.declared.obligation.Atom.TheVariants.{Ends, Holds}
+use Rattle.rule_terms.specs.declared.obligation.Literal.{Literal}
 use Rattle.rule_terms.specs.declared.path.Path.{Path}
-use Rattle.rule_terms.specs.declared.path.Stop.TheVariants.{At, Stuck}
+use Rattle.rule_terms.specs.declared.path.Stop.{Stop}
+use Rattle.rule_terms.specs.declared.path.Stop.TheVariants.{At, Halted, Stuck}
 use Rattle.rule_terms.specs.declared.limit.LimitKind.TheVariants.{PathSteps, Paths, Pairs, Entries}
 use Rattle.path_pairs.specs.Outcomes.{outcomes}
 use Rattle.path_pairs.specs.Walks.{stmt_step, walks, goes_on}
@@ -109,3 +111,57 @@ both_ways first second = record { literals = record { sign = first; atom = Holds
 two_tests : side_paths (tests 2) (0 ∷ 1 ∷ []) left_store 0 ≡ both_ways true true ∷ both_ways true false ∷ both_ways false true ∷ both_ways false false ∷ []
 unfolding outcomes stmt_step walks side_paths
 two_tests = refl
+
+-- ---- walks that halt
+abbrev holds : Bool → StoreTerm → Literal
+holds way s = record { sign = way; atom = Holds 0 s }
+
+abbrev ends : Bool → Literal
+ends way = record { sign = way; atom = ends_1 }
+
+abbrev path_of : List Literal → StoreTerm → Stop → Path
+path_of ls s stop = record { literals = ls; store = s; stop = stop }
+
+-- an `assert` before and behind a statement parameter is no cut point
+abbrev guarded : Block
+guarded = stmt (assert_that b) (stmt s (stmt (assert_that b) empty))
+
+guarded_cuts : cuts (rule_of Default guarded guarded)
+    ≡ Ok (record { left = 0 ∷ 1 ∷ 2 ∷ []; right = 0 ∷ 1 ∷ 2 ∷ []; pairs = (0, 0) ∷ (2, 2) ∷ (1, 1) ∷ [] })
+unfolding outcomes stmt_step walks goes_on side_paths has_long_walk walked store_nodes atom_nodes
+guarded_cuts = refl
+
+-- a walk goes on where the test is true, and halts in the store as it is where it is false
+guarded_start : side_paths guarded (0 ∷ 1 ∷ 2 ∷ []) left_store 0
+    ≡ path_of (holds true left_store ∷ []) left_store (At 1) ∷ path_of (holds false left_store ∷ []) left_store Halted ∷ []
+unfolding outcomes stmt_step walks side_paths
+guarded_start = refl
+
+-- behind the parameter it halts in the store in which that ended
+guarded_parameter : side_paths guarded (0 ∷ 1 ∷ 2 ∷ []) left_store 1
+    ≡ path_of (ends true ∷ holds true (run 1 left_store) ∷ []) (run 1 left_store) (At 2)
+    ∷ path_of (ends true ∷ holds false (run 1 left_store) ∷ []) (run 1 left_store) Halted
+    ∷ path_of (ends false ∷ []) left_store (Stuck 1) ∷ []
+unfolding outcomes stmt_step walks side_paths
+guarded_parameter = refl
+
+-- `while B { assert B; }`: one turn ends at the loop, or halts in it
+abbrev guarded_loop : Block
+guarded_loop = stmt (while_do b (stmt (assert_that b) empty)) empty
+
+guarded_loop_cuts : cuts (rule_of Default guarded_loop guarded_loop)
+    ≡ Ok (record { left = 0 ∷ 1 ∷ 2 ∷ []; right = 0 ∷ 1 ∷ 2 ∷ []; pairs = (0, 0) ∷ (2, 2) ∷ (1, 1) ∷ [] })
+unfolding outcomes stmt_step walks goes_on side_paths has_long_walk walked store_nodes atom_nodes
+guarded_loop_cuts = refl
+
+guarded_turn : side_paths guarded_loop (0 ∷ 1 ∷ 2 ∷ []) left_store 1
+    ≡ path_of (holds true left_store ∷ holds true left_store ∷ []) left_store (At 1)
+    ∷ path_of (holds true left_store ∷ holds false left_store ∷ []) left_store Halted
+    ∷ path_of (holds false left_store ∷ []) left_store (At 2) ∷ []
+unfolding outcomes stmt_step walks side_paths
+guarded_turn = refl
+
+-- a side that halts at once where the test is false, beside one that does nothing, makes no entry more
+halts_alone : cuts (rule_of Default (stmt (assert_that b) empty) empty) ≡ Ok (record { left = 0 ∷ 1 ∷ []; right = 0 ∷ 1 ∷ []; pairs = (0, 0) ∷ (1, 1) ∷ [] })
+unfolding outcomes stmt_step walks goes_on side_paths has_long_walk walked store_nodes atom_nodes
+halts_alone = refl

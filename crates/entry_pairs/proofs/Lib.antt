@@ -1,8 +1,14 @@
+pub mod AllPassing
+pub mod Ascending
+pub mod CutPairs
 pub mod DownwardCuts
 pub mod EnteredPairs
+pub mod EntriesGrown
 pub mod EntriesInside
+pub mod EntryListed
 pub mod EntrySteps
 pub mod Examples
 pub mod KindsOfPoints
 pub mod ListedPoints
 pub mod MeetingSteps
+pub mod StopsAreCuts

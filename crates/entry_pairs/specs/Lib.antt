@@ -1,3 +1,4 @@
 pub mod CutAnswers
 pub mod Cuts
+pub mod EntryLists
 pub mod PointKinds

@@ -6,6 +6,7 @@ mod cut_points;
 mod default_cuts;
 mod entries;
 mod entry_search;
+pub mod laws;
 mod point_kinds;
 mod refusal;
 

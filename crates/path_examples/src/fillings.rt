@@ -19,9 +19,9 @@ fn expression(alloc: Global, text: &str) -> Option<Filling> {
 }
 
 fn test(alloc: Global, text: &str) -> Option<Filling> {
-    let text = format!(in alloc; "while {text} {{ }}").ok()?;
+    let text = format!(in alloc; "assert {text};").ok()?;
     match only_statement(alloc, text.as_str())?.node {
-        StmtNode::While(t, _) => Some(Filling::Test(t)),
+        StmtNode::Assert(t) => Some(Filling::Test(t)),
         _ => None,
     }
 }
@@ -36,23 +36,30 @@ fn filling(alloc: Global, kind: Kind, text: &str) -> Option<Filling> {
         Kind::Name => name(alloc, text),
         Kind::Expr => expression(alloc, text),
         Kind::Test => test(alloc, text),
-        Kind::Stmt => Some(Filling::Stmt(program(alloc, text)?)),
+        Kind::Stmt => program(alloc, text).map(Filling::Stmt),
     }
 }
 
 /// The name that no row uses, for one cell more.
 pub const SPARE: &str = "spare";
 
-/// The instance of these parameters by texts, and behind it a name that nothing else has.
+fn add(by: &mut Instance, filling: Option<Filling>) -> Option<()> {
+    by.fillings.push(filling?).ok()
+}
+
+// What the texts spell, and behind it a name that nothing else has.
+fn fill_in(alloc: Global, by: &mut Instance, params: &[Param], texts: &[&str]) -> Option<()> {
+    for (param, text) in params.iter().zip(texts) {
+        add(by, filling(alloc, param.kind, text))?;
+    }
+    add(by, name(alloc, SPARE))
+}
+
+/// The instance of these parameters by texts, with one name more.
 pub fn instance(alloc: Global, params: &[Param], texts: &[&str]) -> Option<Instance> {
     let mut by = Instance {
         fillings: Items::new(alloc),
     };
-    for (param, text) in params.iter().zip(texts) {
-        let filling = filling(alloc, param.kind, text)?;
-        by.fillings.push(filling).ok()?;
-    }
-    let spare = name(alloc, SPARE)?;
-    by.fillings.push(spare).ok()?;
+    fill_in(alloc, &mut by, params, texts)?;
     Some(by)
 }

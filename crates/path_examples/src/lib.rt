@@ -1,5 +1,5 @@
-//! Worked examples of paths: outcomes, entries, and programs run along the paths of a rule's left side, from cut
-//! point to cut point, beside the same programs run step by step. It holds tests alone.
+//! Worked examples of paths: outcomes, cut points and entries, the limits that they meet, and programs run along the
+//! paths of a rule's left side, from cut point to cut point, beside the same programs run step by step. Tests alone.
 #![tactic(auto)]
 
 #[cfg(test)]

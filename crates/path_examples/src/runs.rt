@@ -1,31 +1,56 @@
 //! Runs of programs that are given as texts, in stores that are given as the assignments that make them.
 
-use program_examples::program;
+use program_examples::{assignments, program};
 use sqlite_items::Items;
 use std::alloc::Global;
-use toy_imp::Block;
+use toy_imp::{Block, NoMemory};
 use toy_run::{Cell, Ran, run_program};
 
-/// The steps after which a program is taken not to end.
+/// The steps after which a program is taken to go on for ever.
 const STEPS: u64 = 10_000;
 
-fn ended(alloc: Global, block: &Block) -> Option<Option<Items<Cell>>> {
-    match run_program(alloc, block, STEPS).ok()? {
+/// The run of a program.
+pub fn run_of(alloc: Global, block: Option<Block>) -> Option<Ran> {
+    run_program(alloc, &block?, STEPS).ok()
+}
+
+/// The run of a program that a text spells.
+pub fn run_text(alloc: Global, text: &str) -> Option<Ran> {
+    run_of(alloc, program(alloc, text))
+}
+
+/// The store in which a run ends; the inner answer is none where it does not end.
+pub fn end_of(ran: Option<Ran>) -> Option<Option<Items<Cell>>> {
+    match ran? {
         Ran::Ended(cells, _) => Some(Some(cells)),
-        Ran::Spent => Some(None),
+        Ran::Halted(_, _) | Ran::Spent => Some(None),
         Ran::Wide(_) => None,
     }
 }
 
-/// The store in which a program ends that a text spells; the inner answer is none where it does not end.
-pub fn ends_in(alloc: Global, text: &str) -> Option<Option<Items<Cell>>> {
-    let block = program(alloc, text)?;
-    ended(alloc, &block)
+fn halted(alloc: Global, store: Option<String>) -> Option<String> {
+    let store = store?;
+    format!(in alloc; "{store}halts").ok()
 }
 
-/// The same of statements behind the assignments of a store.
-pub fn ends_behind(alloc: Global, store: &str, block: Block) -> Option<Option<Items<Cell>>> {
-    let mut whole = program(alloc, store)?;
-    whole.stmts.append(block.stmts).ok()?;
-    ended(alloc, &whole)
+/// How a run comes out: the assignments that make its last store, with `halts` behind them where it halts.
+pub fn told(alloc: Global, ran: Option<Ran>) -> Option<String> {
+    match ran? {
+        Ran::Ended(cells, _) => assignments(alloc, cells.as_slice()),
+        Ran::Halted(cells, _) => halted(alloc, assignments(alloc, cells.as_slice())),
+        Ran::Spent => String::from_str(alloc, "goes on").ok(),
+        Ran::Wide(_) => None,
+    }
+}
+
+// A program behind another.
+fn behind(first: Option<Block>, second: Result<Block, NoMemory>) -> Option<Block> {
+    let mut whole = first?;
+    whole.stmts.append(second.ok()?.stmts).ok()?;
+    Some(whole)
+}
+
+/// How the run of statements comes out behind the assignments of a store.
+pub fn told_behind(alloc: Global, store: &str, block: Result<Block, NoMemory>) -> Option<String> {
+    told(alloc, run_of(alloc, behind(program(alloc, store), block)))
 }

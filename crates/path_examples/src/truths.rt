@@ -1,12 +1,13 @@
 //! Whether literals are true in a setting, by what store terms mean there and by running programs.
 
 use crate::fillings::SPARE;
-use crate::runs::ends_in;
+use crate::runs::{end_of, run_text};
 use program_examples::assignments;
-use rule_terms::{Atom, Literal, Place, StoreNode, StoreTerm, ValueTerm};
-use sqlite_items::{Boxed, Items};
+use rule_terms::{Atom, Literal, Place, StoreTerm, ValueTerm};
+use sqlite_items::Items;
 use std::alloc::Global;
 use term_run::{Meant, Setting, store_means};
+use toy_imp::NoMemory;
 use toy_run::Cell;
 
 /// A setting with the texts of its fillings; the number of the spare name is that of the parameters.
@@ -25,41 +26,46 @@ fn spare_value(cells: &[Cell]) -> i128 {
 }
 
 // L with the value in the spare cell.
-fn noted(alloc: Global, spare: u32, v: &ValueTerm) -> Option<StoreTerm> {
+fn noted(alloc: Global, spare: u32, v: Result<ValueTerm, NoMemory>) -> Option<StoreTerm> {
     let place = Place {
         name: spare,
         indices: Items::new(alloc),
     };
-    let store = Boxed::new(alloc, StoreTerm::left()).ok()?;
-    let copy = v.copy(alloc).ok()?;
-    let value = Boxed::new(alloc, copy).ok()?;
-    Some(StoreTerm {
-        node: StoreNode::Put(store, place, value),
-    })
+    StoreTerm::put(alloc, StoreTerm::left(), place, v.ok()?).ok()
+}
+
+fn noted_value(meant: Result<Meant, NoMemory>) -> Option<i128> {
+    match meant {
+        Ok(Meant::Store(cells)) => Some(spare_value(cells.as_slice())),
+        _ => None,
+    }
 }
 
 fn value(alloc: Global, scene: &Scene<'_>, v: &ValueTerm) -> Option<i128> {
     let spare = u32::try_from(scene.texts.len()).ok()?;
-    let term = noted(alloc, spare, v)?;
-    match store_means(alloc, &scene.setting, &term).ok()? {
-        Meant::Store(cells) => Some(spare_value(cells.as_slice())),
+    let term = noted(alloc, spare, v.copy(alloc))?;
+    noted_value(store_means(alloc, &scene.setting, &term))
+}
+
+fn text_of(alloc: Global, meant: Result<Meant, NoMemory>) -> Option<Option<String>> {
+    match meant {
+        Ok(Meant::Store(cells)) => Some(Some(assignments(alloc, cells.as_slice())?)),
+        Ok(Meant::Nothing) => Some(None),
         _ => None,
     }
 }
 
 /// The assignments that make the store that a term means; the inner answer is none where it means none.
 pub fn store_text(alloc: Global, scene: &Scene<'_>, s: &StoreTerm) -> Option<Option<String>> {
-    match store_means(alloc, &scene.setting, s).ok()? {
-        Meant::Store(cells) => Some(Some(assignments(alloc, cells.as_slice())?)),
-        Meant::Nothing => Some(None),
-        Meant::Wide => None,
-    }
+    text_of(alloc, store_means(alloc, &scene.setting, s))
 }
 
 // A test in a store, by an `if`.
 fn holds_in(alloc: Global, store: &str, test: &str) -> Option<bool> {
-    let text = format!(in alloc; "{store}{SPARE} := 0; if {test} {{ {SPARE} := 1; }} else {{ }}");
-    let cells = ends_in(alloc, text.ok()?.as_str())??;
+    let text = format!(in alloc;
+        "{store}{SPARE} := 0; if {test} {{ {SPARE} := 1; }} else {{ }}"
+    ).ok()?;
+    let cells = end_of(run_text(alloc, text.as_str()))??;
     Some(spare_value(cells.as_slice()) == 1)
 }
 
@@ -71,33 +77,21 @@ fn holds(alloc: Global, scene: &Scene<'_>, k: u32, s: &StoreTerm) -> Option<bool
     }
 }
 
-fn is_at_most(
-    alloc: Global,
-    scene: &Scene<'_>,
-    a: &ValueTerm,
-    b: &ValueTerm,
-    by: i128,
-) -> Option<bool> {
+// By how much one value is above another.
+fn above(alloc: Global, scene: &Scene<'_>, a: &ValueTerm, b: &ValueTerm) -> Option<i128> {
     let a = value(alloc, scene, a)?;
-    let b = value(alloc, scene, b)?;
-    Some(a <= b.checked_add(by)?)
-}
-
-fn is_same(alloc: Global, scene: &Scene<'_>, a: &ValueTerm, b: &ValueTerm) -> Option<bool> {
-    let a = value(alloc, scene, a)?;
-    let b = value(alloc, scene, b)?;
-    Some(a == b)
+    a.checked_sub(value(alloc, scene, b)?)
 }
 
 fn is_true(alloc: Global, scene: &Scene<'_>, x: &Literal) -> Option<bool> {
     let found = match &x.atom {
-        Atom::AtMost(a, b, by) => is_at_most(alloc, scene, a, b, *by),
-        Atom::SameValue(a, b) => is_same(alloc, scene, a, b),
-        Atom::Ends(s) => Some(store_text(alloc, scene, s)?.is_some()),
-        Atom::Holds(k, s) => holds(alloc, scene, *k, s),
-        _ => None,
+        Atom::AtMost(a, b, by) => above(alloc, scene, a, b)? <= *by,
+        Atom::SameValue(a, b) => above(alloc, scene, a, b)? == 0,
+        Atom::Ends(s) => store_text(alloc, scene, s)?.is_some(),
+        Atom::Holds(k, s) => holds(alloc, scene, *k, s)?,
+        _ => return None,
     };
-    Some(found? == x.sign)
+    Some(found == x.sign)
 }
 
 /// Whether all of these literals are true.

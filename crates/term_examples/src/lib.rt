@@ -1,5 +1,5 @@
-//! Worked examples of terms: what they come to, by hand, in tables of tests. The readers of the tables'
-//! notation serve the benches too. It promises nothing.
+//! Terms, literals, conjuncts and obligations read from a notation of words in prefix order, for worked examples
+//! and benches. It promises nothing; `term_tests` shows what is read.
 #![tactic(auto)]
 
 mod obligations;
@@ -7,14 +7,3 @@ mod reading;
 
 pub use obligations::obligation;
 pub use reading::{conjunct, literals, store, value};
-
-#[cfg(test)]
-mod copied_tests;
-#[cfg(test)]
-mod counted_tests;
-#[cfg(test)]
-mod meaning_tests;
-#[cfg(test)]
-mod precondition_tests;
-#[cfg(test)]
-mod refutation_tests;

@@ -1,11 +1,11 @@
 //! A refutation of an obligation whose goal is known, and the same with a known conjunct that is not there.
 
-use crate::obligation;
 use proof_steps::{By, Refutation, Step, refutes};
 use rule_terms::{Atom, Literal, Obligation, StoreTerm};
 use sqlite_items::Items;
 use std::alloc::Global;
 use std::test::Fail;
+use term_examples::obligation;
 use toy_imp::NoMemory;
 
 fn sides(sign: bool) -> Literal {
