@@ -3,4 +3,6 @@
 #![tactic(auto)]
 
 #[cfg(test)]
+mod stream_tests;
+#[cfg(test)]
 mod text_tests;
