@@ -3,13 +3,10 @@ use Rattle.std.specs.Prelude.{◌≡◌, ℕ, ℤ, pos, negsuc, ◌-◌, ◌^◌
 use Rattle.linear_rows.specs.declared.row.Row.{Row}
 use Rattle.linear_rows.specs.declared.step.RowStep.{RowStep}
 use Rattle.linear_rows.specs.declared.fraction.Fraction.{Fraction}
-use Rattle.linear_rows.specs.declared.answer.RowMark.{RowMark}
-use Rattle.linear_rows.specs.declared.answer.RowKind.{RowKind}
-use Rattle.linear_rows.specs.declared.answer.RowKind.TheVariants as kind
 use Rattle.linear_rows.specs.Divisor.{divisor}
 use Rattle.linear_rows.specs.Fractions.{reduced}
 use Rattle.linear_rows.specs.Steps.{column_of, last_by}
-use Rattle.linear_rows.specs.Elimination.{Outcome, empty, point, limit, eliminated}
+use Rattle.linear_rows.specs.Elimination.{empty, point, eliminated}
 use Rattle.iteration_order.specs.declared.affine.Affine.{Affine}
 use Rattle.iteration_order.specs.declared.bounds.Bounds.{Bounds}
 use Rattle.iteration_order.specs.Affine.{weighted_sum}
@@ -25,9 +22,6 @@ row coefficients bound = record { coefficients = coefficients; bound = bound }
 
 abbrev over : ℤ → ℕ → Fraction
 over z n = record { over = z; under = pos n }
-
-abbrev passes : ℕ → RowKind → Outcome
-passes k what = limit (record { stage = k; what = what })
 
 abbrev great : ℕ
 great = 2 ^ 62
@@ -73,25 +67,6 @@ three_rows = refl
 two_lower_bounds : eliminated 2 (row (pos 1 ∷ pos 1 ∷ []) (pos 1) ∷ row (minus 1 ∷ pos 0 ∷ []) (minus 1) ∷ row (pos 0 ∷ minus 1 ∷ []) (minus 1) ∷ []) ≡ empty
 unfolding divisor reduced
 two_lower_bounds = refl
-
--- a coefficient that becomes 2^62 + 1, and one of 2^62
-wide_coefficient : eliminated 2 (row (minus 1 ∷ pos great ∷ []) (pos 0) ∷ row (pos 1 ∷ pos 1 ∷ []) (pos 1) ∷ []) ≡ passes 1 kind.Coefficient
-unfolding divisor reduced
-wide_coefficient = refl
-
-widest_coefficient : eliminated 2 (row (minus 1 ∷ pos (great - 1) ∷ []) (pos 0) ∷ row (pos 1 ∷ pos 1 ∷ []) (pos 1) ∷ [])
-    ≡ point (over (pos (great - 1)) great ∷ over (pos 1) great ∷ [])
-unfolding divisor reduced
-widest_coefficient = refl
-
--- a value of the first variable that is too wide, and one just not
-wide_value : eliminated 2 (row (pos 2 ∷ pos 1 ∷ []) (pos 0) ∷ row (pos 0 ∷ pos great ∷ []) (pos 1) ∷ []) ≡ passes 0 kind.Point
-unfolding divisor reduced
-wide_value = refl
-
-widest_value : eliminated 2 (row (pos 1 ∷ pos 1 ∷ []) (pos 0) ∷ row (pos 0 ∷ pos great ∷ []) (pos 1) ∷ []) ≡ point (over (minus 1) great ∷ over (pos 1) great ∷ [])
-unfolding divisor reduced
-widest_value = refl
 
 -- ---- which row steps can be made, for x <= 0 and -x <= -2^62
 

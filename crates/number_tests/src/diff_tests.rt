@@ -60,7 +60,12 @@ fn found(rt: &(impl Abort + AllocGlobal), n: u32, rows: &[DiffRow]) -> Result<i1
 {
     match solve(rt.alloc(), n, rows)? {
         DiffAnswer::Point(point) => {
-            Ok(point.as_slice().iter().fold(0, |sum, value| value.wrapping_add(sum)))
+            Ok(
+                point
+                    .as_slice()
+                    .iter()
+                    .fold(0, |sum, value| value.wrapping_add(sum)),
+            )
         }
         DiffAnswer::Cycle(places) => {
             let cycle = places.as_slice();

@@ -1,5 +1,5 @@
-//! Systems of linear rows: one for each kind of answer and of limit, and as many rows as there may be and one
-//! more. All row steps that are answered are checked.
+//! Systems of linear rows: one for each kind of answer, and each limit at its number and one above. All row steps
+//! that are answered are checked.
 
 ghost use Rattle.std.specs.Prelude.{◌≡◌, ◌≤◌, ◌^◌, unsigned_abs, All, IfOk, OnOk};
 ghost use Rattle.linear_rows.specs.Row.{IsRowOver};
@@ -88,6 +88,9 @@ fn answers_systems(rt: HostRuntime) -> Result<(), Fail> {
 1 | -3 -7; 1 9 => point 7/3
 2 | 1 1 1; -1 0 -1; 0 -1 -1 => empty 2
 2 | -1 4611686018427387904 0; 1 1 1 => limit 1 Coefficient
+2 | -1 4611686018427387903 0; 1 1 1 => point 1/4611686018427387904
+2 | 2 1 0; 0 4611686018427387904 1 => limit 0 Point
+2 | 1 1 0; 0 4611686018427387904 1 => point 1/4611686018427387904
 3 | 0 1 2 0; 0 0 -1 -4611686018427387904; 1 0 0 0 => limit 1 Point";
     for line in systems.lines() {
         let (system, wanted) = line.split_once(" => ").ok_or("no answer")?;
