@@ -15,7 +15,6 @@ use Rattle.rule_terms.specs.Counts.{store_nodes, literals_nodes}
 use Rattle.rule_terms.specs.declared.obligation.Literal.{Literal}
 use Rattle.rule_terms.specs.declared.path.Path.{Path}
 use Rattle.rule_terms.specs.declared.path.Stop.{Stop}
-use Rattle.rule_terms.specs.declared.path.Stop.TheVariants.{Halted}
 use Rattle.path_pairs.specs.Rests.{Rest, stretch}
 use Rattle.path_pairs.specs.Outcomes.{outcomes}
 use Rattle.path_pairs.specs.Walks.{Next, goes, stops, Walk, stands, each_so, by_each, stmt_step, rest_step, step, rest_stop, stop_of, walks, goes_on}

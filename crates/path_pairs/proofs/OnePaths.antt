@@ -26,7 +26,7 @@ use Rattle.path_pairs.specs.declared.cut_points.Side.{Side}
 use Rattle.path_pairs.specs.declared.cut_points.Side.TheVariants.{Left, Right}
 use Rattle.path_pairs.specs.Comes.{Comes}
 use Rattle.path_pairs.specs.Open.{block_is_open}
-use Rattle.path_pairs.specs.PathLaws.{work_of, work_at, its_store, is_taken, last_term, CoversStores, block_length, rest_length, left_count, GetsOn, StopsAt, Tells, OnePath}
+use Rattle.path_pairs.specs.PathLaws.{work_of, work_at, its_store, is_taken, CoversStores, block_length, rest_length, left_count, GetsOn, StopsAt, Tells, OnePath}
 use Rattle.path_pairs.specs.Paths.{side_of, cuts_of, store_of as term_of, side_paths, has_long_walk, paths}
 use Rattle.path_pairs.specs.Rests.{Rest, stretch, rests, rest_at}
 use Rattle.path_pairs.specs.Walks.{Next, goes, stops, Walk, stands, stmt_step, rest_step, step, rest_stop, stop_of, walks, goes_on}

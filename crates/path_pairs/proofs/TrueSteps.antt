@@ -10,7 +10,7 @@ use Rattle.toy_imp.specs.declared.name.Name.{Name}
 use Rattle.toy_imp.specs.declared.name.Name.TheVariants.{Own, Par}
 use Rattle.toy_imp.specs.Block.{Stmt, skip, put, assert_that, if_then, while_do, for_to, let_in, par_stmt, Block, empty, stmt, append}
 use Rattle.toy_imp.specs.Cell.{spelled}
-use Rattle.toy_imp.specs.Ends.{Reaches, Halts}
+use Rattle.toy_imp.specs.Ends.{Reaches}
 use Rattle.toy_imp.specs.Expr.{Expr, Exprs}
 use Rattle.toy_imp.specs.Fill.{name_at, block_at, fill_name, fill_expr, fill_exprs, fill_test, fill_stmt, fill}
 use Rattle.toy_imp.specs.Points.{stmt_count, point_count}

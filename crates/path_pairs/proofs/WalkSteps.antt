@@ -13,7 +13,7 @@ use Rattle.rule_terms.specs.declared.path.Stop.{Stop}
 use Rattle.rule_terms.specs.declared.path.Stop.TheVariants.{At, Halted}
 use Rattle.path_pairs.specs.Outcomes.{outcomes}
 use Rattle.path_pairs.specs.Rests.{Rest, stretch}
-use Rattle.path_pairs.specs.Walks.{Next, goes, stops, stands, each_so, by_each, stmt_step, is_cut, goes_on}
+use Rattle.path_pairs.specs.Walks.{stops, stands, each_so, by_each, stmt_step, is_cut, goes_on}
 use Rattle.path_pairs.specs.Along.{passes, most_steps, rest_steps}
 use Rattle.path_pairs.proofs.OutcomeLengths.{as_many_outcomes, some_outcome}
 use Rattle.path_pairs.proofs.Stopping.{passed, blocked}
