@@ -2,7 +2,7 @@
 use Rattle.std.proofs.Common.{◌≡◌, ℕ, Bool, true, false, not, ◌||◌, List, [], ◌∷◌, ◌++◌, Bor, bytes_eq, if◌then◌else◌, refl, ap, ◌∙◌}
 use Rattle.std.proofs.lemmas.List.{map_push}
 use Rattle.std.specs.List.{list_any}
-use Rattle.pec_top.specs.Titles.{titles_in, with_title}
+use Rattle.pec_top.specs.Seen.{titles_in, with_title}
 
 pub not_not : (b : Bool) → not (not b) ≡ b
 not_not true = refl

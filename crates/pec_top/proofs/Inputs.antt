@@ -7,12 +7,14 @@ use Rattle.pec_text.specs.SectionsOf.{sections_of}
 use Rattle.pec_text.specs.declared.section_data.Section.{Section}
 use Rattle.pec_text.specs.declared.section_data.SectionList.{SectionList}
 use Rattle.pec_top.specs.declared.command.Command.{Command}
-use Rattle.pec_top.specs.declared.command.Command.TheVariants.{Prove, Print}
+use Rattle.pec_top.specs.declared.command.Command.TheVariants.{Prove, Print, Run}
 use Rattle.pec_top.specs.declared.input.Input.{Input}
 use Rattle.pec_top.specs.declared.input.Input.TheVariants as input
 use Rattle.pec_top.specs.Input.{InputIs}
 use Rattle.pec_top.specs.PrintedItems.{IsPrintable}
-use Rattle.pec_top.specs.Serving.{Proves, IsInput, ReadsAll}
+use Rattle.pec_top.specs.declared.output.Output.{Output}
+use Rattle.pec_top.specs.Output.{OutputIs}
+use Rattle.pec_top.specs.Serving.{Proves, IsInput, ReadsAll, Delivers, Writes}
 use Rattle.pec_top.proofs.Accepted.{accepted_spellable}
 use Rattle.pec_top.proofs.Validity.{proved_are_valid}
 
@@ -20,9 +22,8 @@ proves : (command : Command) (bytes : List ℕ) (found : Input) → InputIs comm
 proves Prove bytes (input.Accepted items) h = proved_are_valid (sections_of bytes).whole items h.0
 proves Prove bytes (input.Refused refusal) h = tt
 proves Prove bytes input.Larger h = tt
-proves Print bytes (input.Accepted items) h = tt
-proves Print bytes (input.Refused refusal) h = tt
-proves Print bytes input.Larger h = tt
+proves Print bytes found h = tt
+proves (Run steps) bytes found h = tt
 
 is_input : (command : Command) (bytes : List ℕ) (text : SectionList) (found : Input) → text ≡ sections_of bytes → InputIs command text found → IsInput command bytes found
 is_input command bytes text found same h =
@@ -36,7 +37,7 @@ read_is command bytes text (Err e) same h = tt
 
 printable : (command : Command) (text : SectionList) (found : Input) → All (λ (section : Section). is_id section.title ≡ true) text.whole
     → InputIs command text found → IsPrintable found
-printable command text (input.Accepted items) ids h = accepted_spellable command [] text.whole items ids h.0
+printable command text (input.Accepted items) ids h = accepted_spellable command [] [] text.whole items ids h.0
 printable command text (input.Refused refusal) ids h = tt
 printable command text input.Larger ids h = tt
 
@@ -61,3 +62,8 @@ not_larger command bytes found h same = subst (InputIs command (sections_of byte
 pub neither : (P Q : Type 0) (o : Option ℕ) (most : ℕ) → (P → ⊥) → (Q → ⊥) → IfSome o (λ count. P ↔ (count ≡ most)) → IfSome o (λ count. (count ≡ most) ↔ Q)
 neither P Q None most p q h = tt
 neither P Q (Some count) most p q h = (λ e. absurd (p (h.1 e)), λ holds. absurd (q holds))
+
+-- ---- an output that was written
+pub written : (command : Command) (found : Input) (old new : Option (List ℕ)) (status : ℕ) (output : Output) → OutputIs command found output
+    → Delivers old new output status → Writes command found old new status
+written command found old new status output is delivered = record { output = output; is = is; delivered = delivered }

@@ -16,6 +16,8 @@ use Rattle.program_reader.specs.declared.refusal.ReadRule.TheVariants as read
 use Rattle.rule_reader.proofs.Unambiguous.{one_rule, never_wide}
 use Rattle.pec_top.specs.declared.command.Command.{Command}
 use Rattle.pec_top.specs.declared.content.Content.{Content}
+use Rattle.pec_top.specs.declared.content.Item.{Item}
+use Rattle.pec_top.specs.Titles.{Namesakes}
 use Rattle.pec_top.specs.Content.{unread, rule_read_content, program_read_content, KindHolds, Holds}
 
 -- ---- answers on rules
@@ -76,14 +78,18 @@ module _ (bytes title : List ℕ) where
   one_program_content repeated r (Err read.NoMemory) a b x y h k = absurd (none-some b k)
 
 -- ---- sections
-pub one_kind_content : (k : SectionKind) (command : Command) (has_rule has_program : Bool) (section : Section) (a b : Content)
-    → KindHolds k command has_rule has_program section a → KindHolds k command has_rule has_program section b → a ≡ b
-one_kind_content kind.Rule command r p section a b x y = one_rule_content section.title section.body command r x.read y.read a b x.answer y.answer x.is y.is
-one_kind_content kind.Program command r p section a b x y = one_program_content section.body section.title p x.read y.read a b x.answer y.answer x.is y.is
-one_kind_content kind.Report command r p section a b x y = x ∙ sym y
-one_kind_content kind.Cert command r p section a b x y = x ∙ sym y
-one_kind_content kind.Refused command r p section a b x y = x ∙ sym y
-one_kind_content kind.Trace command r p section a b x y = x ∙ sym y
+pub one_kind_content : (k : SectionKind) (command : Command) (known : Namesakes) (section : Section) (a b : Content)
+    → KindHolds k command known section a → KindHolds k command known section b → a ≡ b
+one_kind_content kind.Rule command known section a b x y =
+    one_rule_content section.title section.body command known.rule x.read y.read a b x.answer y.answer x.is y.is
+one_kind_content kind.Program command known section a b x y =
+    one_program_content section.body section.title known.program x.read y.read a b x.answer y.answer x.is y.is
+one_kind_content kind.Report command known section a b x y = x ∙ sym y
+one_kind_content kind.Cert command known section a b x y = x ∙ sym y
+one_kind_content kind.Refused command known section a b x y = x ∙ sym y
+one_kind_content kind.Trace command known section a b x y = x ∙ sym y
+one_kind_content kind.Chain command known section a b x y = x ∙ sym y
 
-pub one_content : (command : Command) (earlier : List Section) (section : Section) (a b : Content) → Holds command earlier section a → Holds command earlier section b → a ≡ b
-one_content command earlier section a b x y = one_kind_content section.kind command _ _ section a b x y
+pub one_content : (command : Command) (earlier : List Section) (items : List Item) (section : Section) (a b : Content)
+    → Holds command earlier items section a → Holds command earlier items section b → a ≡ b
+one_content command earlier items section a b x y = one_kind_content section.kind command _ section a b x y

@@ -2,7 +2,6 @@
 -- a title that stands in a verdict is that of the rule which was judged.
 use Rattle.std.proofs.Common.{◌≡◌, ◌<◌, ◌⊎◌, inl, inr, ℕ, zero, suc, Bool, true, false, ◌||◌, List, [], ◌∷◌, ◌++◌, Option, None, Some, Contains, length, bytes_eq, slice_index_or, if◌then◌else◌, refl, sym, ap, subst, ◌∙◌, arith}
 use Rattle.std.proofs.lemmas.List.Elements.{Contains-append_cases, Contains-append_left, Contains-append_right, Contains-push}
-use Rattle.std.proofs.lemmas.List.Folds.{list_any-append}
 use Rattle.std.proofs.lemmas.Slice.Eq.{bytes_eq-Decides}
 use Rattle.std.specs.List.{list_any}
 use Rattle.toy_imp.specs.declared.rule.Rule.{Rule}
@@ -18,9 +17,10 @@ use Rattle.pec_top.specs.declared.verdict.Verdict.{Verdict}
 use Rattle.pec_top.specs.Content.{KindHolds}
 use Rattle.pec_top.specs.Input.{taken, listed, HoldAll}
 use Rattle.pec_top.specs.SkipForm.{sides_agree}
-use Rattle.pec_top.specs.Titles.{is_kind, title_as, titles_of, has_title}
+use Rattle.pec_top.specs.Titles.{is_kind, has_title, Namesakes}
 use Rattle.pec_top.specs.Verdict.{verdict_of, item_verdicts, verdicts, ProvedAreValid}
-use Rattle.pec_top.proofs.Accepted.{RuleTaken, rule_taken, program_taken, nothing_taken, resting_not_taken, titles_more, new_rule}
+use Rattle.pec_top.proofs.Accepted.{RuleTaken, rule_taken, program_taken, nothing_taken, resting_not_taken, chain_not_taken, rule_titled, new_rule}
+use Rattle.pec_top.proofs.Seeing.{has_append}
 use Rattle.pec_top.proofs.SkipSides.{proved_valid}
 
 -- ---- members of a list
@@ -51,13 +51,8 @@ or_second : (a b : Bool) → b ≡ true → (a || b) ≡ true
 or_second true b h = refl
 or_second false b h = h
 
-has_append : (k : SectionKind) (title : List ℕ) (earlier : List Section) (section : Section)
-    → has_title k title (earlier ++ section ∷ []) ≡ (has_title k title earlier || list_any (bytes_eq title) (title_as k section))
-has_append k title earlier section =
-    ap (list_any (bytes_eq title)) (titles_more k earlier section) ∙ list_any-append (bytes_eq title) (titles_of k earlier) (title_as k section)
-
 has_more : (k : SectionKind) (title : List ℕ) (earlier : List Section) (section : Section) → has_title k title earlier ≡ true → has_title k title (earlier ++ section ∷ []) ≡ true
-has_more k title earlier section h = has_append k title earlier section ∙ or_first _ _ h
+has_more k title earlier section h = has_append title k earlier section ∙ or_first _ _ h
 
 own_title : (b : Bool) (title own : List ℕ) → b ≡ true → own ≡ title → list_any (bytes_eq title) (if b then own ∷ [] else []) ≡ true
 own_title true title own h is = or_first (bytes_eq title own) false ((bytes_eq-Decides title own).1 (sym is))
@@ -66,7 +61,7 @@ own_title false title own h is = cc
 has_own : (title : List ℕ) (earlier : List Section) (section : Section) → section.kind ≡ kind.Rule → section.title ≡ title
     → has_title kind.Rule title (earlier ++ section ∷ []) ≡ true
 has_own title earlier section is_rule is =
-    has_append kind.Rule title earlier section ∙ or_second _ _ (own_title (is_kind kind.Rule section.kind) title section.title (ap (is_kind kind.Rule) is_rule) is)
+    has_append title kind.Rule earlier section ∙ or_second _ _ (own_title (is_kind kind.Rule section.kind) title section.title (ap (λ z. is_kind kind.Rule z) is_rule) is)
 
 -- no rule section behind has the title of an earlier rule
 module _ (command : Command) (title : List ℕ) where
@@ -78,15 +73,15 @@ module _ (command : Command) (title : List ℕ) where
       let clash : true ≡ false = sym has ∙ no in
       cc
 
-  pub no_later : (earlier sections : List Section) (items : List Item) (section : Section) → HoldAll command earlier sections items
+  pub no_later : (earlier : List Section) (held : List Item) (sections : List Section) (items : List Item) (section : Section) → HoldAll command earlier held sections items
       → has_title kind.Rule title earlier ≡ true → Contains sections section → section.kind ≡ kind.Rule → section.title ≡ title → ⊥
-  no_later earlier [] items section held has inside is_rule is = none_inside Section section inside
-  no_later earlier (s ∷ more) items section held has inside is_rule is =
+  no_later earlier held [] items section all has inside is_rule is = none_inside Section section inside
+  no_later earlier held (s ∷ more) items section all has inside is_rule is =
       by_cases (s ≡ section) (Contains more section) ⊥ (cons_cases Section s more section inside)
       (λ same. no_later_by earlier s section
-      (new_rule s.kind command _ _ s held.0 held.3 (ap (λ (z : Section). is_kind kind.Rule z.kind) same ∙ ap (is_kind kind.Rule) is_rule))
+      (new_rule s.kind command _ s all.0 all.3 (ap (λ (z : Section). is_kind kind.Rule z.kind) same ∙ ap (λ z. is_kind kind.Rule z) is_rule))
       has same is)
-      (λ later. no_later (earlier ++ s ∷ []) more held.1 section held.4 (has_more kind.Rule title earlier s has) later is_rule is)
+      (λ later. no_later (earlier ++ s ∷ []) (held ++ listed all.0) more all.1 section all.4 (has_more kind.Rule title earlier s has) later is_rule is)
 
 -- ---- the section of a verdict
 pub record VerdictHere (k : SectionKind) (command : Command) (repeated : Bool) (section : Section) (first : Option Item) (verdict : Verdict) : Type 0 where
@@ -97,28 +92,25 @@ pub record VerdictHere (k : SectionKind) (command : Command) (repeated : Bool) (
 nothing_here : (first : Option Item) (verdict : Verdict) → first ≡ None → Contains (verdicts (listed first)) verdict → ⊥
 nothing_here first verdict is inside = none_inside Verdict verdict (subst (λ z. Contains (verdicts (listed z)) verdict) is inside)
 
-verdict_here : (k : SectionKind) (command : Command) (r p : Bool) (section : Section) (first : Option Item) (verdict : Verdict)
-    → KindHolds k command r p section (taken first) → Contains (verdicts (listed first)) verdict → VerdictHere k command r section first verdict
-verdict_here kind.Rule command r p section first verdict h inside =
-    let parts = rule_taken command r section first h in
+verdict_here : (k : SectionKind) (command : Command) (known : Namesakes) (section : Section) (first : Option Item) (verdict : Verdict)
+    → KindHolds k command known section (taken first) → Contains (verdicts (listed first)) verdict → VerdictHere k command known.rule section first verdict
+verdict_here kind.Rule command known section first verdict h inside =
+    let parts = rule_taken command known.rule section first h in
     let one : Contains (verdict_of parts.rule ∷ []) verdict = subst (λ z. Contains (verdicts (listed z)) verdict) parts.one inside in
     record { is_rule = refl; taken = parts; is = one_inside Verdict _ _ (cons_cases Verdict (verdict_of parts.rule) [] verdict one) }
-verdict_here kind.Program command r p section first verdict h inside =
-    let parts = program_taken p section first h in
+verdict_here kind.Program command known section first verdict h inside =
+    let parts = program_taken known.program section first h in
     absurd (none_inside Verdict verdict (subst (λ z. Contains (verdicts (listed z)) verdict) parts.one inside))
-verdict_here kind.Report command r p section first verdict h inside = absurd (nothing_here first verdict (nothing_taken first h) inside)
-verdict_here kind.Cert command r p section first verdict h inside = absurd (resting_not_taken r first h)
-verdict_here kind.Refused command r p section first verdict h inside = absurd (resting_not_taken r first h)
-verdict_here kind.Trace command r p section first verdict h inside = absurd (resting_not_taken r first h)
-
--- a rule has the title of its section
-titled : (section : Section) (rule : Rule) → SpellsRule section.title section.body rule → rule.title ≡ section.title
-titled section rule x = ap (λ (r : Rule). r.title) (sym x.value)
+verdict_here kind.Report command known section first verdict h inside = absurd (nothing_here first verdict (nothing_taken first h) inside)
+verdict_here kind.Cert command known section first verdict h inside = absurd (resting_not_taken known.rule first h)
+verdict_here kind.Refused command known section first verdict h inside = absurd (resting_not_taken known.rule first h)
+verdict_here kind.Trace command known section first verdict h inside = absurd (resting_not_taken known.rule first h)
+verdict_here kind.Chain command known section first verdict h inside = absurd (chain_not_taken command known.chain_rule known.chain first h)
 
 verdict_title : (command : Command) (r : Bool) (section : Section) (first : Option Item) (verdict : Verdict) → VerdictHere section.kind command r section first verdict
     → section.title ≡ verdict.title
 verdict_title command r section first verdict here =
-    sym (titled section here.taken.rule here.taken.answer.0) ∙ ap (λ (v : Verdict). v.title) here.is
+    sym (rule_titled section here.taken.rule here.taken.answer.0) ∙ ap (λ (v : Verdict). v.title) here.is
 
 -- a verdict is on the first section's item, or on one of the others
 verdict_cases : (first : Option Item) (others : List Item) (verdict : Verdict) → Contains (verdicts (listed first ++ others)) verdict
@@ -139,15 +131,16 @@ pub record RuleSection (sections : List Section) (title : List ℕ) : Type 0 whe
 behind_first : (s : Section) (more : List Section) (title : List ℕ) → RuleSection more title → RuleSection (s ∷ more) title
 behind_first s more title x = record { section = x.section; inside = Contains-append_right (s ∷ []) more x.section x.inside; is_rule = x.is_rule; titled = x.titled }
 
-verdict_section : (command : Command) (earlier sections : List Section) (items : List Item) (verdict : Verdict) → HoldAll command earlier sections items
+verdict_section : (command : Command) (earlier : List Section) (held : List Item) (sections : List Section) (items : List Item) (verdict : Verdict)
+    → HoldAll command earlier held sections items
     → Contains (verdicts items) verdict → RuleSection sections verdict.title
-verdict_section command earlier [] items verdict held inside = absurd (none_inside Verdict verdict (subst (λ z. Contains (verdicts z) verdict) held inside))
-verdict_section command earlier (s ∷ more) items verdict held inside =
-    by_cases (Contains (verdicts (listed held.0)) verdict) (Contains (verdicts held.1) verdict) (RuleSection (s ∷ more) verdict.title)
-    (verdict_cases held.0 held.1 verdict (subst (λ z. Contains (verdicts z) verdict) held.2 inside))
-    (λ first. let here = verdict_here s.kind command _ _ s held.0 verdict held.3 first in
-    record { section = s; inside = Contains-append_left (s ∷ []) more s (Contains-push [] s); is_rule = here.is_rule; titled = verdict_title command _ s held.0 verdict here })
-    (λ later. behind_first s more verdict.title (verdict_section command (earlier ++ s ∷ []) more held.1 verdict held.4 later))
+verdict_section command earlier held [] items verdict all inside = absurd (none_inside Verdict verdict (subst (λ z. Contains (verdicts z) verdict) all inside))
+verdict_section command earlier held (s ∷ more) items verdict all inside =
+    by_cases (Contains (verdicts (listed all.0)) verdict) (Contains (verdicts all.1) verdict) (RuleSection (s ∷ more) verdict.title)
+    (verdict_cases all.0 all.1 verdict (subst (λ z. Contains (verdicts z) verdict) all.2 inside))
+    (λ first. let here = verdict_here s.kind command _ s all.0 verdict all.3 first in
+    record { section = s; inside = Contains-append_left (s ∷ []) more s (Contains-push [] s); is_rule = here.is_rule; titled = verdict_title command _ s all.0 verdict here })
+    (λ later. behind_first s more verdict.title (verdict_section command (earlier ++ s ∷ []) (held ++ listed all.0) more all.1 verdict all.4 later))
 
 -- ---- what is said to be proved is valid
 same_section_valid : (s section : Section) (r : Bool) (first : Option Item) (verdict : Verdict) → VerdictHere s.kind Prove r s first verdict → verdict.is_proved ≡ true
@@ -160,24 +153,25 @@ same_section_valid s section r first verdict here proved same rule spelled =
 
 module _ (verdict : Verdict) (proved : verdict.is_proved ≡ true) (section : Section) (is_rule : section.kind ≡ kind.Rule) (titled : section.title ≡ verdict.title)
     (rule : Rule) (spelled : SpellsRule section.title section.body rule) where
-  pub valid_by_title : (earlier sections : List Section) (items : List Item) → HoldAll Prove earlier sections items
+  pub valid_by_title : (earlier : List Section) (held : List Item) (sections : List Section) (items : List Item) → HoldAll Prove earlier held sections items
       → Contains (verdicts items) verdict → Contains sections section → Valid rule
-  valid_by_title earlier [] items held judged inside = absurd (none_inside Section section inside)
-  valid_by_title earlier (s ∷ more) items held judged inside =
+  valid_by_title earlier held [] items all judged inside = absurd (none_inside Section section inside)
+  valid_by_title earlier held (s ∷ more) items all judged inside =
       let behind : List Section = earlier ++ s ∷ [] in
-      by_cases (Contains (verdicts (listed held.0)) verdict) (Contains (verdicts held.1) verdict) (Valid rule)
-      (verdict_cases held.0 held.1 verdict (subst (λ z. Contains (verdicts z) verdict) held.2 judged))
-      (λ first. let here = verdict_here s.kind Prove _ _ s held.0 verdict held.3 first in
+      let so_far : List Item = held ++ listed all.0 in
+      by_cases (Contains (verdicts (listed all.0)) verdict) (Contains (verdicts all.1) verdict) (Valid rule)
+      (verdict_cases all.0 all.1 verdict (subst (λ z. Contains (verdicts z) verdict) all.2 judged))
+      (λ first. let here = verdict_here s.kind Prove _ s all.0 verdict all.3 first in
       by_cases (s ≡ section) (Contains more section) (Valid rule) (cons_cases Section s more section inside)
-      (λ same. same_section_valid s section _ held.0 verdict here proved same rule spelled)
-      (λ later. absurd (no_later Prove verdict.title behind more held.1 section held.4
-      (has_own verdict.title earlier s here.is_rule (verdict_title Prove _ s held.0 verdict here)) later is_rule titled)))
+      (λ same. same_section_valid s section _ all.0 verdict here proved same rule spelled)
+      (λ later. absurd (no_later Prove verdict.title behind so_far more all.1 section all.4
+      (has_own verdict.title earlier s here.is_rule (verdict_title Prove _ s all.0 verdict here)) later is_rule titled)))
       (λ others. by_cases (s ≡ section) (Contains more section) (Valid rule) (cons_cases Section s more section inside)
-      (λ same. let found = verdict_section Prove behind more held.1 verdict held.4 others in
-      absurd (no_later Prove verdict.title behind more held.1 found.section held.4
+      (λ same. let found = verdict_section Prove behind so_far more all.1 verdict all.4 others in
+      absurd (no_later Prove verdict.title behind so_far more all.1 found.section all.4
       (has_own verdict.title earlier s (ap (λ (z : Section). z.kind) same ∙ is_rule) (ap (λ (z : Section). z.title) same ∙ titled)) found.inside found.is_rule found.titled))
-      (λ later. valid_by_title behind more held.1 held.4 others later))
+      (λ later. valid_by_title behind so_far more all.1 all.4 others later))
 
-pub proved_are_valid : (sections : List Section) (items : List Item) → HoldAll Prove [] sections items → ProvedAreValid sections items
-proved_are_valid sections items held =
-    λ verdict judged proved section inside is_rule titled rule spelled. valid_by_title verdict proved section is_rule titled rule spelled [] sections items held judged inside
+pub proved_are_valid : (sections : List Section) (items : List Item) → HoldAll Prove [] [] sections items → ProvedAreValid sections items
+proved_are_valid sections items all =
+    λ verdict judged proved section inside is_rule titled rule spelled. valid_by_title verdict proved section is_rule titled rule spelled [] [] sections items all judged inside

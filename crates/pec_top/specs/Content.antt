@@ -1,6 +1,6 @@
 -- What one section holds behind the earlier sections of an input: an item, nothing that is taken up, or what is refused.
--- Of several reasons the first in this order is told: not in the grammar, a number too wide, not well formed, not built.
-use Rattle.std.specs.Prelude.{◌≡◌, ℕ, Bool, List, Option, None, Some, Result, Ok, Err, if◌then◌else◌}
+-- Of several reasons the first in this order is told: not in the grammar, a number too wide, not well formed by the least item, not built.
+use Rattle.std.specs.Prelude.{◌≡◌, ℕ, Bool, true, false, not, ◌&&◌, List, Option, None, Some, Result, Ok, Err, if◌then◌else◌}
 use Rattle.toy_imp.specs.declared.rule.Rule.{Rule}
 use Rattle.toy_imp.specs.Block.{Block}
 use Rattle.pec_text.specs.declared.section_data.Section.{Section}
@@ -11,18 +11,25 @@ use Rattle.program_reader.specs.RuleText.{RuleAnswer}
 use Rattle.program_reader.specs.declared.refusal.ReadRule.{ReadRule}
 use Rattle.program_reader.specs.declared.refusal.ReadRule.TheVariants as read
 use Rattle.pec_top.specs.declared.command.Command.{Command}
-use Rattle.pec_top.specs.declared.command.Command.TheVariants.{Prove, Print}
+use Rattle.pec_top.specs.declared.command.Command.TheVariants.{Prove, Print, Run}
 use Rattle.pec_top.specs.declared.content.Content.{Content}
 use Rattle.pec_top.specs.declared.content.Content.TheVariants as content
+use Rattle.pec_top.specs.declared.content.Item.{Item}
 use Rattle.pec_top.specs.declared.content.Item.TheVariants as item
 use Rattle.pec_top.specs.declared.content.Reason.TheVariants as reason
-use Rattle.pec_top.specs.SkipForm.{is_simulated, is_skip_rule}
-use Rattle.pec_top.specs.Titles.{has_title}
+use Rattle.pec_top.specs.SkipForm.{is_skip_rule}
+use Rattle.pec_top.specs.Titles.{is_chain, Namesakes, namesakes}
 
--- what the command does with this rule is built
+abbrev pub is_prove : Command → Bool
+is_prove Prove = true
+is_prove Print = false
+is_prove (Run steps) = false
+
+-- what the command does with this rule is built; `print` and `run` take rules of each method
 abbrev pub is_built : Command → Rule → Bool
 is_built Prove rule = is_skip_rule rule
-is_built Print rule = is_simulated rule.method
+is_built Print rule = true
+is_built (Run steps) rule = true
 
 -- why a body is refused that is not read; want of memory says nothing of it
 abbrev pub unread : ReadRule → Option Content
@@ -31,10 +38,11 @@ unread read.Wide = Some (content.Refused reason.TooWide)
 unread (read.IllFormed f) = Some (content.Refused (reason.IllFormed f))
 unread read.NoMemory = None
 
--- what becomes of a rule, where an earlier rule has its title or none has
+-- what becomes of a rule, where an earlier rule has its title or none has; `prove` takes no rule of method chain
 abbrev pub rule_content : Command → Bool → Rule → Content
 rule_content command repeated rule =
     if repeated then content.Refused (reason.IllFormed 12)
+    else if is_prove command && is_chain rule.method then content.Refused (reason.IllFormed 14)
     else if is_built command rule then content.Item (item.Rule rule)
     else content.Refused reason.NotBuilt
 
@@ -47,6 +55,14 @@ program_content repeated title block =
 -- what becomes of a section that rests on a rule, whose body is not read
 abbrev pub resting_content : Bool → Content
 resting_content has_rule = if has_rule then content.Refused reason.NotBuilt else content.Refused (reason.IllFormed 13)
+
+-- what becomes of a `chain` section, whose body is not read, where an earlier rule of method chain has its title or none
+-- has, and an earlier `chain` section has it or none has; `prove` takes none
+abbrev pub chain_content : Command → Bool → Bool → Content
+chain_content command has_rule repeated =
+    if is_prove command then content.Refused (reason.IllFormed 14)
+    else if has_rule && not repeated then content.Refused reason.NotBuilt
+    else content.Refused (reason.IllFormed 15)
 
 -- the same of what a reader answered
 abbrev pub rule_read_content : Command → Bool → Result Rule ReadRule → Option Content
@@ -68,14 +84,16 @@ pub record ProgramHolds (repeated : Bool) (section : Section) (found : Content) 
   pub answer : ProgramAnswer section.body read
   pub is : program_read_content repeated section.title read ≡ Some found
 
--- by kind; the two Bools say whether an earlier rule, an earlier program has the section's title
-abbrev pub KindHolds : SectionKind → Command → Bool → Bool → Section → Content → Type 0
-KindHolds kind.Rule command has_rule has_program section found = RuleHolds command has_rule section found
-KindHolds kind.Program command has_rule has_program section found = ProgramHolds has_program section found
-KindHolds kind.Report command has_rule has_program section found = found ≡ content.Nothing
-KindHolds _ command has_rule has_program section found = found ≡ resting_content has_rule
+-- by kind, where these are the namesakes among earlier sections
+abbrev pub KindHolds : SectionKind → Command → Namesakes → Section → Content → Type 0
+KindHolds kind.Rule command earlier section found = RuleHolds command earlier.rule section found
+KindHolds kind.Program command earlier section found = ProgramHolds earlier.program section found
+KindHolds kind.Cert command earlier section found = found ≡ resting_content earlier.rule
+KindHolds kind.Refused command earlier section found = found ≡ resting_content earlier.rule
+KindHolds kind.Trace command earlier section found = found ≡ resting_content earlier.rule
+KindHolds kind.Report command earlier section found = found ≡ content.Nothing
+KindHolds kind.Chain command earlier section found = found ≡ chain_content command earlier.chain_rule earlier.chain
 
--- the section, behind these earlier ones, holds this
-abbrev pub Holds : Command → List Section → Section → Content → Type 0
-Holds command earlier section found =
-    KindHolds section.kind command (has_title kind.Rule section.title earlier) (has_title kind.Program section.title earlier) section found
+-- the section holds this, behind these earlier ones, which hold these items
+abbrev pub Holds : Command → List Section → List Item → Section → Content → Type 0
+Holds command earlier items section found = KindHolds section.kind command (namesakes section.title earlier items) section found

@@ -24,12 +24,12 @@ abbrev pub listed : Option Item → List Item
 listed None = []
 listed (Some item) = item ∷ []
 
--- none of the sections behind the earlier ones is refused, and these are their items
-abbrev pub HoldAll : Command → List Section → List Section → List Item → Type 0
-HoldAll command earlier [] items = items ≡ []
-HoldAll command earlier (section ∷ more) items =
+-- none of the sections is refused behind the earlier ones, which hold these items, and their own items are the last list
+abbrev pub HoldAll : Command → List Section → List Item → List Section → List Item → Type 0
+HoldAll command earlier held [] items = items ≡ []
+HoldAll command earlier held (section ∷ more) items =
     (first : Option Item) × (others : List Item) × (items ≡ listed first ++ others)
-    × Holds command earlier section (taken first) × HoldAll command (earlier ++ section ∷ []) more others
+    × Holds command earlier held section (taken first) × HoldAll command (earlier ++ section ∷ []) (held ++ listed first) more others
 
 -- one of the sections is refused, and none before it
 pub record IsRefusedWithin (command : Command) (sections : List Section) (refusal : Refusal) : Type 0 where
@@ -38,8 +38,8 @@ pub record IsRefusedWithin (command : Command) (sections : List Section) (refusa
   pub behind : List Section
   pub in_order : sections ≡ before ++ section ∷ behind
   pub items : List Item
-  pub accepted : HoldAll command [] before items
-  pub refused : Holds command before section (content.Refused refusal.reason)
+  pub accepted : HoldAll command [] [] before items
+  pub refused : Holds command before items section (content.Refused refusal.reason)
   pub number : refusal.section ≡ length before + 1
 
 -- why what stands behind the whole sections of a text is refused, where it is
@@ -51,12 +51,12 @@ rest_refusal (Some (Stray k)) = Some (record { section = k; reason = reason.Stra
 -- what stands behind the whole sections is refused, and none of these
 pub record IsRefusedBehind (command : Command) (text : SectionList) (refusal : Refusal) : Type 0 where
   pub items : List Item
-  pub accepted : HoldAll command [] text.whole items
+  pub accepted : HoldAll command [] [] text.whole items
   pub rest : rest_refusal text.rest ≡ Some refusal
 
 -- what the sections of a text are as an input
 abbrev pub InputIs : Command → SectionList → Input → Type 0
-InputIs command text (input.Accepted items) = HoldAll command [] text.whole items × (text.rest ≡ None)
+InputIs command text (input.Accepted items) = HoldAll command [] [] text.whole items × (text.rest ≡ None)
 InputIs command text (input.Refused refusal) = IsRefusedWithin command text.whole refusal ⊎ IsRefusedBehind command text refusal
 InputIs command text input.Larger = ⊥
 

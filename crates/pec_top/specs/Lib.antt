@@ -5,6 +5,9 @@ pub mod Output
 pub mod PrintedItems
 pub mod RefusalLine
 pub mod Report
+pub mod RunReport
+pub mod Runs
+pub mod Seen
 pub mod Serving
 pub mod SkipForm
 pub mod Titles

@@ -29,10 +29,11 @@ counts_text all =
 abbrev pub report_text : List Verdict → List ℕ
 report_text all = codes "report prove\n" ++ (flat_map verdict_line all ++ (counts_text all ++ codes "end\n"))
 
--- how a run ends that reports these verdicts
+-- how the program ends where all went well, and where not all did
 abbrev pub ending_of_all : Bool → Ending
 ending_of_all true = ending.Done
-ending_of_all false = ending.SomeRefused
+ending_of_all false = ending.SomeFailed
 
+-- each rule is proved, or some is refused
 abbrev pub report_ending : List Verdict → Ending
 report_ending all = ending_of_all (list_all (λ verdict. verdict.is_proved) all)

@@ -6,13 +6,13 @@ use Rattle.pec_io.specs.Reading.{taken_count}
 use Rattle.pec_io.specs.Writing.{AppendsPart}
 use Rattle.pec_text.specs.SectionsOf.{sections_of}
 use Rattle.pec_top.specs.declared.command.Command.{Command}
-use Rattle.pec_top.specs.declared.command.Command.TheVariants.{Prove}
+use Rattle.pec_top.specs.declared.command.Command.TheVariants.{Prove, Print, Run}
 use Rattle.pec_top.specs.declared.input.Input.{Input}
 use Rattle.pec_top.specs.declared.input.Input.TheVariants as input
 use Rattle.pec_top.specs.declared.output.Output.{Output}
 use Rattle.pec_top.specs.Command.{Name}
 use Rattle.pec_top.specs.Input.{InputIs}
-use Rattle.pec_top.specs.Output.{status_of, output_of}
+use Rattle.pec_top.specs.Output.{status_of, OutputIs}
 use Rattle.pec_top.specs.Verdict.{ProvedAreValid}
 
 -- the greatest number of bytes of an input
@@ -25,10 +25,19 @@ Delivers old new output status =
     ((status ≡ status_of output.ending) × Appends old new output.text)
     ⊎ ((status ≡ 5) × AppendsPart old new output.text)
 
+-- what the command has to write for the input was written, whole or in part
+pub record Writes (command : Command) (found : Input) (written written' : Option (List ℕ)) (status : ℕ) : Type 0 where
+  pub output : Output
+  pub is : OutputIs command found output
+  pub delivered : Delivers written written' output status
+
 -- what the command proves of the rules of its input
 abbrev pub Proves : Command → List ℕ → Input → Type 0
 Proves Prove bytes (input.Accepted items) = ProvedAreValid (sections_of bytes).whole items
-Proves _ bytes _ = Unit {0}
+Proves Prove bytes (input.Refused refusal) = Unit {0}
+Proves Prove bytes input.Larger = Unit {0}
+Proves Print bytes found = Unit {0}
+Proves (Run steps) bytes found = Unit {0}
 
 -- these bytes are this input, and what is said to be proved of it is so
 pub record IsInput (command : Command) (bytes : List ℕ) (found : Input) : Type 0 where
@@ -47,4 +56,4 @@ pub record Serves (words : List (List ℕ)) (left left' written written' : Optio
   pub found : Input
   pub larger : IfSome (taken_count left left') (λ count. (count ≡ input_limit + 1) ↔ (found ≡ input.Larger))
   pub read : found ≢ input.Larger → ReadsAll command left left' found
-  pub delivered : Delivers written written' (output_of command found) status
+  pub writes : Writes command found written written' status

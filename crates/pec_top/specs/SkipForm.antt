@@ -17,6 +17,8 @@ use Rattle.toy_imp.specs.Block.{skip, par_stmt, Block, empty, stmt}
 abbrev pub is_simulated : Method → Bool
 is_simulated method.Simulate = true
 is_simulated method.Permute = false
+is_simulated method.Chain = false
+is_simulated method.Tile = false
 
 abbrev pub are_default : CutList → Bool
 are_default cuts.Default = true

@@ -1,19 +1,26 @@
--- The titles of the sections of one kind among a list of sections, in order.
-use Rattle.std.specs.Prelude.{ℕ, Bool, true, false, List, [], ◌∷◌, ◌++◌, bytes_eq, flat_map, map, if◌then◌else◌}
-use Rattle.std.specs.Borrow.{Bor}
+-- The titles of the sections of one kind, and of the rules of method chain, among those that were read.
+use Rattle.std.specs.Prelude.{ℕ, Bool, true, false, ◌==◌, List, [], ◌∷◌, bytes_eq, flat_map, if◌then◌else◌}
 use Rattle.std.specs.List.{list_any}
+use Rattle.toy_imp.specs.declared.rule.Method.{Method}
+use Rattle.toy_imp.specs.declared.rule.Method.TheVariants as method
 use Rattle.pec_text.specs.declared.section_data.Section.{Section}
 use Rattle.pec_text.specs.declared.section_data.SectionKind.{SectionKind}
 use Rattle.pec_text.specs.declared.section_data.SectionKind.TheVariants as kind
+use Rattle.pec_top.specs.declared.content.Item.{Item}
+use Rattle.pec_top.specs.declared.content.Item.TheVariants as item
+
+-- the number of a kind, a different one for each
+abbrev pub kind_number : SectionKind → ℕ
+kind_number kind.Rule = 0
+kind_number kind.Program = 1
+kind_number kind.Cert = 2
+kind_number kind.Refused = 3
+kind_number kind.Trace = 4
+kind_number kind.Report = 5
+kind_number kind.Chain = 6
 
 abbrev pub is_kind : SectionKind → SectionKind → Bool
-is_kind kind.Rule kind.Rule = true
-is_kind kind.Program kind.Program = true
-is_kind kind.Cert kind.Cert = true
-is_kind kind.Refused kind.Refused = true
-is_kind kind.Trace kind.Trace = true
-is_kind kind.Report kind.Report = true
-is_kind _ _ = false
+is_kind a b = kind_number a == kind_number b
 
 -- the title of a section of this kind, and none of another
 abbrev pub title_as : SectionKind → Section → List (List ℕ)
@@ -26,14 +33,33 @@ titles_of kind sections = flat_map (title_as kind) sections
 abbrev pub has_title : SectionKind → List ℕ → List Section → Bool
 has_title kind title sections = list_any (bytes_eq title) (titles_of kind sections)
 
--- the titles in a list of borrowed titles; where a title is borrowed from does not count
-abbrev pub titles_in : List (Bor (List ℕ)) → List (List ℕ)
-titles_in titles = map (λ title. title.now) titles
+abbrev pub is_chain : Method → Bool
+is_chain method.Simulate = false
+is_chain method.Permute = false
+is_chain method.Chain = true
+is_chain method.Tile = false
 
--- what was seen, and a title that may be new
-abbrev pub with_title : List (List ℕ) → List ℕ → List (List ℕ)
-with_title seen title = if list_any (bytes_eq title) seen then seen else seen ++ title ∷ []
+-- the title of a rule of method chain, and none of another item
+abbrev pub chain_title : Item → List (List ℕ)
+chain_title (item.Rule rule) = if is_chain rule.method then rule.title ∷ [] else []
+chain_title (item.Program program) = []
 
--- what was seen, and the title of a section where it is of this kind
-abbrev pub seen_with : SectionKind → List (List ℕ) → Section → List (List ℕ)
-seen_with kind seen section = if is_kind kind section.kind then with_title seen section.title else seen
+-- whether a rule of method chain has this title
+abbrev pub has_chain_rule : List ℕ → List Item → Bool
+has_chain_rule title items = list_any (bytes_eq title) (flat_map chain_title items)
+
+-- whether a rule, a program, a rule of method chain, a `chain` section has a title
+pub record Namesakes : Type 0 where
+  pub rule : Bool
+  pub program : Bool
+  pub chain_rule : Bool
+  pub chain : Bool
+
+-- of this title, among these sections, which hold these items
+abbrev pub namesakes : List ℕ → List Section → List Item → Namesakes
+namesakes title sections items = record {
+  rule = has_title kind.Rule title sections;
+  program = has_title kind.Program title sections;
+  chain_rule = has_chain_rule title items;
+  chain = has_title kind.Chain title sections;
+}

@@ -1,8 +1,9 @@
 //! The commands of the program, and which words name one. `specs/Command.antt` says when they do.
 
-ghost use Rattle.std.specs.Prelude.{◌≡◌, MatchOption, map, string_bytes};
-ghost use Rattle.pec_top.specs.Command.{Name};
-ghost use Rattle.pec_top.specs.declared.command.Command.{Command};
+ghost use Rattle.std.specs.Prelude.{◌≡◌, ℕ, [], ◌∷◌, MatchOption, map, string_bytes};
+ghost use Rattle.pec_top.specs.Command.{IsStepCount, IsNamedBy, AreStepsOf, OneCommand};
+
+use itoa::Buffer;
 
 /// What the program can be asked to do.
 #[derive(Clone, Copy, Debug, PartialEq, Eq)]
@@ -11,23 +12,44 @@ pub enum Command {
     Prove,
     /// Write each rule and program of the input in canonical form.
     Print,
+    /// Run each program of the input for at most so many steps, and report on it.
+    Run(u64),
 }
+
+/// The greatest number of steps that a run can be given.
+const MOST_STEPS: u64 = 1_000_000;
 
 /// The command that these words name, the program's own name left out; `None` for other words.
 pub fn named_by(words: &[String]) -> Option<Command>
-    ensures { MatchOption result ((command : Command) → ¬ (Name (map string_bytes words.now) command)) (λ command. Name (map string_bytes words.now) command) }
+    ensures { IsNamedBy result (map string_bytes words.now) }
 {
     match words.split_first() {
-        Some((first, [])) => word_command(first.as_str()),
-        _ => None,
+        Some((first, rest)) => by_first(first.as_str(), rest),
+        None => None,
     }
 }
 
-ghost use Rattle.pec_top.specs.Command.{command_word};
+/// The command that a first word names, with these words behind it.
+#[tactic(auto, using(crate::proofs::Words::run_named, crate::proofs::Words::run_else, crate::proofs::Words::longer_names_none))]
+fn by_first(first: &str, rest: &[String]) -> Option<Command>
+    ensures { IsNamedBy result (first.now ∷ map string_bytes rest.now) }
+{
+    if first == "run" {
+        let Some(steps) = steps_of(rest) else {
+            return None;
+        };
+        return Some(Command::Run(steps));
+    }
+    if !rest.is_empty() {
+        return None;
+    }
+    word_command(first)
+}
 
-/// The command of this word.
+/// The command that a word names alone.
+#[tactic(auto, using(crate::proofs::Words::word_names_none))]
 fn word_command(word: &str) -> Option<Command>
-    ensures { MatchOption result ((command : Command) → ¬ (word.now ≡ command_word command)) (λ command. word.now ≡ command_word command) }
+    ensures { IsNamedBy result (word.now ∷ []) }
 {
     if word == "prove" {
         Some(Command::Prove)
@@ -37,3 +59,47 @@ fn word_command(word: &str) -> Option<Command>
         None
     }
 }
+
+/// The number of steps that the words behind `run` give.
+fn steps_of(words: &[String]) -> Option<u64>
+    ensures { AreStepsOf result (map string_bytes words.now) }
+{
+    match words.split_first() {
+        Some((option, [number])) => step_option(option.as_str(), number.as_str()),
+        _ => None,
+    }
+}
+
+/// The number of steps that an option and a word behind it give.
+#[tactic(auto, using(crate::proofs::Words::option_gives, crate::proofs::Words::option_else, crate::proofs::Words::other_option))]
+fn step_option(option: &str, number: &str) -> Option<u64>
+    ensures { AreStepsOf result (option.now ∷ number.now ∷ []) }
+{
+    if option == "--steps" {
+        step_count(number)
+    } else {
+        None
+    }
+}
+
+/// The number of steps that a word is.
+fn step_count(word: &str) -> Option<u64>
+    ensures { MatchOption result ((n : ℕ) → ¬ (IsStepCount word.now n)) (IsStepCount word.now) }
+{
+    let Ok(steps) = word.parse::<u64>() else {
+        return None;
+    };
+    if steps > MOST_STEPS {
+        return None;
+    }
+    let mut buffer = Buffer::new();
+    if buffer.format(steps) != word {
+        return None;
+    }
+    Some(steps)
+}
+
+/// A law: words name one command at most. It does nothing.
+pub fn one_command()
+    ensures { OneCommand }
+{}

@@ -1,14 +1,15 @@
 //! What one section holds, behind the earlier ones. `specs/Content.antt` says what that is, and in which
 //! order the reasons come for which a section is refused.
 
-ghost use Rattle.std.specs.Prelude.{◌≡◌, Bool, Some, IfOk, MatchResult};
-ghost use Rattle.pec_text.specs.declared.section_data.SectionKind.{SectionKind};
-ghost use Rattle.pec_top.specs.Content.{is_built, unread, rule_content, program_content, resting_content, rule_read_content, program_read_content, RuleHolds, ProgramHolds, KindHolds};
+ghost use Rattle.std.specs.Prelude.{◌≡◌, Some, IfOk};
+ghost use Rattle.pec_top.specs.Content.{is_prove, is_built, unread, rule_content, resting_content, chain_content, rule_read_content, program_read_content, RuleHolds, ProgramHolds};
+ghost use Rattle.pec_top.specs.Seen.{is_chain_rule};
+ghost use Rattle.pec_top.specs.Titles.{is_chain};
 
 use crate::command::Command;
 use crate::no_memory::NoMemory;
 use crate::skip_form::is_skip_rule;
-use pec_text::{Section, SectionKind};
+use pec_text::Section;
 use program_reader::{ReadRule, read_program};
 use rule_reader::read_rule;
 use sqlite_items::Items;
@@ -74,8 +75,20 @@ fn is_built(command: Command, rule: &Rule) -> bool
 {
     match command {
         Command::Prove => is_skip_rule(rule),
-        Command::Print => matches!(rule.method, Method::Simulate),
+        Command::Print | Command::Run(_) => true,
     }
+}
+
+fn is_prove(command: Command) -> bool
+    ensures { result ≡ is_prove command }
+{
+    matches!(command, Command::Prove)
+}
+
+fn is_chain(method: Method) -> bool
+    ensures { result ≡ is_chain method }
+{
+    matches!(method, Method::Chain)
 }
 
 /// What becomes of a rule, where its title is repeated or is not.
@@ -84,6 +97,9 @@ fn rule_content(command: Command, repeated: bool, rule: Rule) -> Content
 {
     if repeated {
         return Content::Refused(Reason::IllFormed(12));
+    }
+    if is_prove(command) && is_chain(rule.method) {
+        return Content::Refused(Reason::IllFormed(14));
     }
     if !is_built(command, &rule) {
         return Content::Refused(Reason::NotBuilt);
@@ -156,5 +172,30 @@ pub fn resting_section(has_rule: bool) -> Content
         Content::Refused(Reason::NotBuilt)
     } else {
         Content::Refused(Reason::IllFormed(13))
+    }
+}
+
+/// What becomes of a `chain` section, where an earlier rule of method chain has its title or none has,
+/// and an earlier `chain` section has it or none has.
+pub fn chain_section(command: Command, has_rule: bool, repeated: bool) -> Content
+    ensures { result ≡ chain_content command has_rule repeated }
+{
+    if is_prove(command) {
+        return Content::Refused(Reason::IllFormed(14));
+    }
+    if has_rule && !repeated {
+        Content::Refused(Reason::NotBuilt)
+    } else {
+        Content::Refused(Reason::IllFormed(15))
+    }
+}
+
+/// Whether a section holds a rule of method chain.
+pub fn is_chain_rule(found: &Content) -> bool
+    ensures { result ≡ is_chain_rule found.now }
+{
+    match found {
+        Content::Item(Item::Rule(rule)) => is_chain(rule.method),
+        Content::Item(Item::Program(_)) | Content::Nothing | Content::Refused(_) => false,
     }
 }

@@ -2,20 +2,19 @@
 //! `specs/Input.antt` says which. Time grows with the bytes: each section is read once, and each title
 //! is looked up once.
 
-ghost use Rattle.std.specs.Prelude.{◌≡◌, IfOk, bytes_eq};
-ghost use Rattle.std.specs.List.{list_any};
-ghost use Rattle.pec_text.specs.declared.section_data.SectionKind.TheVariants as kind;
+ghost use Rattle.std.specs.Prelude.{◌≡◌, IfOk};
 ghost use Rattle.pec_top.specs.Content.{KindHolds};
 ghost use Rattle.pec_top.specs.Input.{InputIs, OneInput, rest_refusal};
 ghost use Rattle.pec_top.specs.PrintedItems.{IsPrintable};
 ghost use Rattle.pec_top.specs.Serving.{IsInput};
-ghost use Rattle.pec_top.specs.Titles.{titles_in, seen_with};
+ghost use Rattle.pec_top.specs.Seen.{namesakes_in, Sees};
 
 use crate::command::Command;
-use crate::content::{Content, Item, Reason, program_section, resting_section, rule_section};
+use crate::content::{
+    Content, Item, Reason, chain_section, program_section, resting_section, rule_section,
+};
 use crate::no_memory::NoMemory;
-use crate::titles::{is_repeated, is_seen};
-use indexmap::IndexSet;
+use crate::titles::{Titles, is_repeated, is_seen, see_chain_rule};
 use pec_text::{Section, SectionKind, SectionList, TextRefusal, sections};
 use sqlite_items::Items;
 use std::alloc::Global;
@@ -48,16 +47,16 @@ pub fn read_input(alloc: Global, command: Command, bytes: &[u8]) -> Result<Input
 }
 
 /// What the sections of a text are as an input of the command.
+#[tactic(auto, using(crate::proofs::Accepted::none_accepted))]
 fn text_input(alloc: Global, command: Command, text: &SectionList) -> Result<Input, NoMemory>
     ensures { IfOk result (InputIs command text.now) }
 {
-    let mut rules = IndexSet::new(alloc);
-    let mut programs = IndexSet::new(alloc);
+    let mut titles = Titles::new(alloc);
     let mut items = Items::new(alloc);
     let mut number = 0u64;
     for section in text.whole.as_slice() {
         number += 1;
-        match section_content(alloc, command, &mut rules, &mut programs, section)? {
+        match section_content(alloc, command, &mut titles, section)? {
             Content::Item(item) => items.push(item)?,
             Content::Nothing => {}
             Content::Refused(reason) => {
@@ -74,34 +73,38 @@ fn text_input(alloc: Global, command: Command, text: &SectionList) -> Result<Inp
     }
 }
 
-/// What a section holds behind those of which these titles of rules and of programs were seen. Its own
-/// title is seen then.
+/// What a section holds behind those whose titles were seen. Its own title is seen then.
 fn section_content<'a>(
     alloc: Global,
     command: Command,
-    rules: &mut IndexSet<&'a [u8]>,
-    programs: &mut IndexSet<&'a [u8]>,
+    titles: &mut Titles<'a>,
     section: &'a Section,
 ) -> Result<Content, NoMemory>
-    ensures found { IfOk result (KindHolds section.now.kind command
-        (list_any (bytes_eq section.now.title) (titles_in rules.old.keys))
-        (list_any (bytes_eq section.now.title) (titles_in programs.old.keys)) section.now) }
-    ensures rules { IfOk result (λ _. titles_in rules.new.keys ≡ seen_with kind.Rule (titles_in rules.old.keys) section.now) }
-    ensures programs { IfOk result (λ _. titles_in programs.new.keys ≡ seen_with kind.Program (titles_in programs.old.keys) section.now) }
+    ensures found { IfOk result
+        (KindHolds section.now.kind command (namesakes_in titles.old section.now.title) section.now) }
+    ensures titles { IfOk result (Sees titles.old titles.new section.now) }
 {
+    let title = section.title.as_slice();
     match section.kind {
         SectionKind::Rule => {
-            let repeated = is_repeated(rules, section.title.as_slice())?;
-            rule_section(alloc, command, repeated, section)
+            let repeated = is_repeated(&mut titles.rules, title)?;
+            let found = rule_section(alloc, command, repeated, section)?;
+            see_chain_rule(&mut titles.chain_rules, title, &found)?;
+            Ok(found)
         }
         SectionKind::Program => {
-            let repeated = is_repeated(programs, section.title.as_slice())?;
+            let repeated = is_repeated(&mut titles.programs, title)?;
             program_section(alloc, repeated, section)
         }
-        SectionKind::Report => Ok(Content::Nothing),
         SectionKind::Cert | SectionKind::Refused | SectionKind::Trace => {
-            let has_rule = is_seen(rules, section.title.as_slice());
+            let has_rule = is_seen(&titles.rules, title);
             Ok(resting_section(has_rule))
+        }
+        SectionKind::Report => Ok(Content::Nothing),
+        SectionKind::Chain => {
+            let has_rule = is_seen(&titles.chain_rules, title);
+            let repeated = is_repeated(&mut titles.chains, title)?;
+            Ok(chain_section(command, has_rule, repeated))
         }
     }
 }

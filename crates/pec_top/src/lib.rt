@@ -10,17 +10,16 @@ mod output;
 mod printed_items;
 mod refusal_line;
 mod report;
+mod run_report;
 mod serving;
 mod skip_form;
 mod titles;
 mod verdict;
 
-pub use command::Command;
+pub use command::{Command, one_command};
 pub use content::{Content, Item, Program, Reason};
 pub use input::{Input, Refusal, one_input};
-pub use output::{Ending, Output};
+pub use output::{Ending, Output, one_output};
+pub use run_report::Outcome;
 pub use serving::serve_plain;
 pub use verdict::Verdict;
-
-#[cfg(test)]
-mod tests;

@@ -2,7 +2,7 @@
 //! `specs/Output.antt` says both.
 
 ghost use Rattle.std.specs.Prelude.{◌≡◌, ◌++◌, All, IfOk, OnOk};
-ghost use Rattle.pec_top.specs.Output.{status_of, items_output, output_of};
+ghost use Rattle.pec_top.specs.Output.{status_of, ItemsOutput, OutputIs, OneOutput};
 ghost use Rattle.pec_top.specs.PrintedItems.{IsSpellable, IsPrintable};
 
 use crate::command::Command;
@@ -12,6 +12,7 @@ use crate::no_memory::NoMemory;
 use crate::printed_items::items_text;
 use crate::refusal_line::refusal_line;
 use crate::report::{report_ending, report_text};
+use crate::run_report::run_report;
 use crate::verdict::verdicts;
 use sqlite_items::Items;
 use std::alloc::Global;
@@ -21,8 +22,8 @@ use std::alloc::Global;
 pub enum Ending {
     /// All is done.
     Done,
-    /// All is done, and a rule is refused.
-    SomeRefused,
+    /// All is done, and a rule is refused or a program did not end.
+    SomeFailed,
     /// The input is refused.
     InputRefused,
 }
@@ -41,7 +42,7 @@ impl Ending {
     {
         match self {
             Ending::Done => 0,
-            Ending::SomeRefused => 1,
+            Ending::SomeFailed => 1,
             Ending::InputRefused => 3,
         }
     }
@@ -50,7 +51,7 @@ impl Ending {
 /// What the command has to write for the input.
 pub fn output_of(alloc: Global, command: Command, input: &Input) -> Result<Output, NoMemory>
     requires { IsPrintable input.now }
-    ensures { IfOk result (λ output. output ≡ output_of command input.now) }
+    ensures { IfOk result (OutputIs command input.now) }
 {
     match input {
         Input::Accepted(items) => items_output(alloc, command, items.as_slice()),
@@ -80,7 +81,7 @@ fn refused_output(line: Vec<u8>) -> Output
 /// What the command has to write for these items.
 fn items_output(alloc: Global, command: Command, items: &[Item]) -> Result<Output, NoMemory>
     requires { All IsSpellable items.now }
-    ensures { IfOk result (λ output. output ≡ items_output command items.now) }
+    ensures { IfOk result (ItemsOutput command items.now) }
 {
     match command {
         Command::Prove => {
@@ -94,6 +95,7 @@ fn items_output(alloc: Global, command: Command, items: &[Item]) -> Result<Outpu
             let ending = Ending::Done;
             Ok(Output { text, ending })
         }
+        Command::Run(steps) => run_report(alloc, steps, items),
     }
 }
 
@@ -104,3 +106,8 @@ pub fn put(bytes: &[u8], out: &mut Vec<u8>) -> Result<(), NoMemory>
     out.extend_from_slice(bytes)?;
     Ok(())
 }
+
+/// A law: a command has one output for an input. It does nothing.
+pub fn one_output()
+    ensures { OneOutput }
+{}

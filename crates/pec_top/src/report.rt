@@ -29,7 +29,7 @@ pub fn report_ending(all: &[Verdict]) -> Ending
     if are_all_proved(all) {
         Ending::Done
     } else {
-        Ending::SomeRefused
+        Ending::SomeFailed
     }
 }
 
@@ -72,13 +72,13 @@ fn verdict_word(is_proved: bool) -> &'static [u8]
 fn put_counts(all: &[Verdict], out: &mut Vec<u8>) -> Result<(), NoMemory>
     ensures { OnOk result (out.new.items ≡ out.old.items ++ counts_text all.now) }
 {
-    put_count(b"rules ", all.len(), out)?;
-    put_count(b"proved ", proved_count(all), out)?;
-    put_count(b"refused ", refused_count(all), out)
+    put_count(b"rules ", all.len() as u64, out)?;
+    put_count(b"proved ", proved_count(all) as u64, out)?;
+    put_count(b"refused ", refused_count(all) as u64, out)
 }
 
 /// Puts a word, a number and the end of the line.
-fn put_count(word: &[u8], count: usize, out: &mut Vec<u8>) -> Result<(), NoMemory>
+pub fn put_count(word: &[u8], count: u64, out: &mut Vec<u8>) -> Result<(), NoMemory>
     ensures { OnOk result (out.new.items ≡ out.old.items ++ count_line word.now count) }
 {
     let mut buffer = Buffer::new();

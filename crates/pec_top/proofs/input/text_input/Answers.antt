@@ -8,16 +8,16 @@ use Rattle.pec_top.proofs.input.text_input.Goals as goal
 pub returns-in-Refused : goal.returns-in-Refused
 returns-in-Refused c =
     inl (subst (λ z. IsRefusedWithin c.args.command z (record { section = c.loop-section.number + 1; reason = c.in-Refused.reason })) c.as_slice-section-items.ensures
-    (one_refused c.args.command _ _ _ _ _ _ c.section-item.result c.in-Refused.reason c.loop-section.invariant c.loop-section-test.true c.section-item.is
+    (one_refused c.args.command _ _ _ _ _ c.section-item.result c.loop-section.invariant c.loop-section-test.true c.section-item.is c.in-Refused.reason
     (rw c.in-Refused.is at c.in_ok-item.ensures.found)))
 
 pub loop-section-preserved : goal.loop-section-preserved
 loop-section-preserved c =
     elim c.match-branch-2.branch [
       | in-Item+in_ok-push-in-Item w ↦
-          turn_accepted c.args.command _ _ _ _ _ _ _ _ _ c.section-item.result _ (Some w.in-Item.item) c.loop-section.invariant c.loop-section-test.true c.section-item.is
-          c.in_ok-item.ensures.found w.in-Item.is (w.items-is ∙ w.in_ok-push-in-Item.ensures.ok) c.in_ok-item.ensures.rules c.in_ok-item.ensures.programs
+          turn_accepted c.args.command _ _ _ _ _ c.section-item.result c.loop-section.invariant c.loop-section-test.true c.section-item.is _ _ _
+          (Some w.in-Item.item) c.in_ok-item.ensures.found w.in-Item.is (w.items-is ∙ w.in_ok-push-in-Item.ensures.ok) c.in_ok-item.ensures.titles
       | in-Nothing w ↦
-          turn_accepted c.args.command _ _ _ _ _ _ _ _ _ c.section-item.result _ None c.loop-section.invariant c.loop-section-test.true c.section-item.is
-          c.in_ok-item.ensures.found w.in-Nothing.is (w.items-is ∙ sym (append-nil _)) c.in_ok-item.ensures.rules c.in_ok-item.ensures.programs
+          turn_accepted c.args.command _ _ _ _ _ c.section-item.result c.loop-section.invariant c.loop-section-test.true c.section-item.is _ _ _
+          None c.in_ok-item.ensures.found w.in-Nothing.is (w.items-is ∙ sym (append-nil _)) c.in_ok-item.ensures.titles
     ]

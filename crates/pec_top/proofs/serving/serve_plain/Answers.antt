@@ -15,5 +15,5 @@ returns-in-Ok-read_input-clause-served g c = λ no_usage no_fault memory.
       found = found;
       larger = neither _ _ _ _ (λ no. cc) (not_larger command _ found is) read.large;
       read = λ _. reads_all command _ _ _ found read.all read.to_the_end.0 is;
-      delivered = c.deliver.ensures.delivered memory;
+      writes = c.deliver.ensures.delivered memory;
     }

@@ -1,5 +1,5 @@
 use Rattle.std.proofs.Common.{not, ap, ◌∙◌}
-use Rattle.pec_top.specs.Titles.{titles_in}
+use Rattle.pec_top.specs.Seen.{titles_in}
 use Rattle.pec_top.proofs.Borrowed.{not_not, title_among, seen_titles}
 use Rattle.pec_top.proofs.titles.is_repeated.Goals as goal
 
