@@ -1,5 +1,5 @@
 -- Worked examples of linear rows, of row steps, and of nests of loops, by the definitions alone.
-use Rattle.std.specs.Prelude.{◌≡◌, ℕ, ℤ, pos, negsuc, ◌-◌, ◌^◌, List, [], ◌∷◌, Option, Some, None, refl}
+use Rattle.std.specs.Prelude.{◌≡◌, ℕ, ℤ, pos, negsuc, ◌-◌, ◌^◌, List, [], ◌∷◌, Some, None, refl}
 use Rattle.linear_rows.specs.declared.row.Row.{Row}
 use Rattle.linear_rows.specs.declared.step.RowStep.{RowStep}
 use Rattle.linear_rows.specs.declared.fraction.Fraction.{Fraction}
