@@ -12,7 +12,9 @@ ghost use Rattle.toy_run.specs.Work.{work_of, first_of, rest_of};
 
 use crate::memory::Memory;
 use crate::ran::Ran;
-use crate::step::{Width, do_assert, do_for, do_if, do_let, do_put, do_turn, do_while, write_variable};
+use crate::step::{
+    Width, do_assert, do_for, do_if, do_let, do_put, do_turn, do_while, write_variable,
+};
 use crate::work::{Item, pop_item, push_block, push_item};
 use std::alloc::Global;
 use toy_imp::{Block, NoMemory, Stmt, StmtNode};
