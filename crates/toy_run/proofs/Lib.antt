@@ -3,3 +3,4 @@ pub mod Determined
 pub mod Listing
 pub mod Stores
 pub mod Values
+pub mod Variables

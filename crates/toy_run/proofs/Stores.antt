@@ -46,7 +46,7 @@ read_empty : (c : Cell) → read empty_store c ≡ pos 0
 unfolding read empty_store
 read_empty c = ap held (map.get-empty cell_cmp c)
 
-held-cond : (b : Bool) (v : ℤ) (o : Option ℤ) → cond b v (held o) ≡ held (cond b (Some v) o)
+pub held-cond : (b : Bool) (v : ℤ) (o : Option ℤ) → cond b v (held o) ≡ held (cond b (Some v) o)
 held-cond true v o = refl
 held-cond false v o = refl
 
@@ -59,14 +59,14 @@ read_made (e ∷ es) p =
     ∙ held-cond (is_eq (place_cmp p e.0)) e.1 (lookup (is_at (place_cmp p)) es)
 
 -- ---- writing
-held-update : (b : Bool) (v : ℤ) (w o : Option ℤ) → held w ≡ v → held (cond b w o) ≡ cond b v (held o)
+pub held-update : (b : Bool) (v : ℤ) (w o : Option ℤ) → held w ≡ v → held (cond b w o) ≡ cond b v (held o)
 held-update true v w o e = e
 held-update false v w o e = refl
 
 pub made_by_write : (es fs : List (Place × ℤ)) (k : Place) (w : Option ℤ) (v : ℤ) → held w ≡ v
     → ((q : Place) → lookup (is_at (place_cmp q)) fs ≡ cond (is_at (place_cmp k) q) w (lookup (is_at (place_cmp q)) es))
     → store_of fs ≡ write (store_of es) (cell_of k) v
-made_by_write es fs k w v is changed = agreeing_is_equal _ _ (λ c. at (record { name = c.0; indices = c.1 }))
+made_by_write es fs k w v is changed = agreeing_is_equal _ _ (λ c. at (record { name = record { ref_ptr = (0, 0); now = c.0 }; indices = c.1 }))
   where
     tie : (q : Place) → is_at (place_cmp k) q ≡ eq_by_cmp cell_cmp (cell_of q) (cell_of k)
     tie q = ties_alike (cell_of k) (cell_of q) ∙ (eq_by_cmp_equiv cell_total).symm (cell_of k) (cell_of q)

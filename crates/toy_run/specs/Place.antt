@@ -16,7 +16,7 @@ pub listed_total : IsTotalOrder listed_cmp
 listed_total = then_total (on_total (λ (c : Cell). c.0) nat_list_cmp_total) (then_total (on_total (λ (c : Cell). length c.1) nat_cmp_total) (on_total (λ (c : Cell). c.1) (lists_total int_cmp_total)))
 
 abbrev pub cell_of : Place → Cell
-cell_of p = (p.name, p.indices)
+cell_of p = (p.name.now, p.indices)
 
 abbrev pub place_cmp : Place → Place → Ordering
 place_cmp p q = listed_cmp (cell_of p) (cell_of q)

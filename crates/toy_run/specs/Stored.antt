@@ -1,7 +1,8 @@
--- The store that a list of entries makes: from the empty store the value of each is written into its place.
--- Every cell of the empty store holds 0.
-use Rattle.std.specs.Prelude.{◌≢◌, ℤ, pos, List, [], ◌∷◌, Some}
+-- The store that lists of entries make: from the empty store the value of each is written into its place, and then the value of
+-- each variable under its name. Every cell of the empty store holds 0.
+use Rattle.std.specs.Prelude.{◌≢◌, ℕ, ℤ, pos, List, [], ◌∷◌, Some}
 use Rattle.std.specs.FinMap as map
+use denote.Bor.{Bor}
 use Rattle.toy_imp.specs.Cell.{Cell, cell_cmp}
 use Rattle.toy_imp.specs.Store.{Store, write}
 use Rattle.toy_run.specs.declared.place.Place.{Place}
@@ -17,3 +18,12 @@ empty_store = record { cells = map.empty; nonzero = none_held }
 unfoldable pub store_of : List (Place × ℤ) → Store
 store_of [] = empty_store
 store_of (e ∷ es) = write (store_of es) (cell_of e.0) e.1
+
+-- a name with a value stands for the variable of that name
+unfoldable pub with_variables : List (Bor (List ℕ) × ℤ) → Store → Store
+with_variables [] s = s
+with_variables (e ∷ es) s = write (with_variables es s) (e.0.now, []) e.1
+
+-- the store of variables and of cells with indices
+abbrev pub store_by : List (Bor (List ℕ) × ℤ) → List (Place × ℤ) → Store
+store_by vs es = with_variables vs (store_of es)

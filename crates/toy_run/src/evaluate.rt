@@ -18,20 +18,24 @@ use std::alloc::Global;
 use toy_imp::{Expr, ExprNode, Name, NoMemory, Test, TestNode};
 
 /// The place of a name at indices.
-pub fn place(alloc: Global, name: &Name, indices: Items<i128>) -> Result<Place, NoMemory>
-    ensures { IfOk result (λ p. cell_of p ≡ (spelled name.now, indices)) }
+pub fn place<'a>(name: &'a Name, indices: Items<i128>) -> Place<'a>
+    ensures { cell_of result ≡ (spelled name.now, indices) }
 {
     let name = match name {
-        Name::Own(bytes) => Items::from_slice(alloc, bytes.as_slice())?,
-        Name::Par(_) => Items::new(alloc),
+        Name::Own(bytes) => bytes.as_slice(),
+        Name::Par(_) => &[],
     };
-    Ok(Place { name, indices })
+    Place { name, indices }
 }
 
 /// The value of an expression, where all its parts are narrow.
 #[cycle(evaluate)]
 #[tactic(auto, unfolding(toy_imp::specs::Value::value, crate::specs::Narrow::NarrowExpr))]
-pub fn evaluate(alloc: Global, e: &Expr, memory: &Memory) -> Result<Option<i128>, NoMemory>
+pub fn evaluate<'a>(
+    alloc: Global,
+    e: &'a Expr,
+    memory: &Memory<'a>,
+) -> Result<Option<i128>, NoMemory>
     ensures { IfOk result (λ o. SomeIff o (NarrowExpr e.now (store_in memory.now)) (value e.now (store_in memory.now))) }
 {
     match &e.node {
@@ -40,7 +44,7 @@ pub fn evaluate(alloc: Global, e: &Expr, memory: &Memory) -> Result<Option<i128>
             let Some(indices) = evaluate_all(alloc, indices.as_slice(), memory)? else {
                 return Ok(None);
             };
-            let place = place(alloc, name, indices)?;
+            let place = place(name, indices);
             Ok(Some(memory.read(&place)))
         }
         ExprNode::Add(a, b) => {
@@ -67,11 +71,11 @@ pub fn evaluate(alloc: Global, e: &Expr, memory: &Memory) -> Result<Option<i128>
 
 /// The values of two expressions, where all their parts are narrow.
 #[cycle(evaluate)]
-pub fn evaluate_both(
+pub fn evaluate_both<'a>(
     alloc: Global,
-    a: &Expr,
-    b: &Expr,
-    memory: &Memory,
+    a: &'a Expr,
+    b: &'a Expr,
+    memory: &Memory<'a>,
 ) -> Result<Option<(i128, i128)>, NoMemory>
     ensures { IfOk result (λ o. SomeIff o (NarrowExpr a.now (store_in memory.now) × NarrowExpr b.now (store_in memory.now)) (value a.now (store_in memory.now), value b.now (store_in memory.now))) }
 {
@@ -87,10 +91,10 @@ pub fn evaluate_both(
 /// The values of expressions, in their order, where all their parts are narrow.
 #[cycle(evaluate)]
 #[tactic(auto, using(toy_imp::specs::ExprFalls::expr_item, crate::proofs::Values::narrow_at, crate::proofs::Values::values_none, crate::proofs::Values::narrow_none))]
-pub fn evaluate_all(
+pub fn evaluate_all<'a>(
     alloc: Global,
-    es: &[Expr],
-    memory: &Memory,
+    es: &'a [Expr],
+    memory: &Memory<'a>,
 ) -> Result<Option<Items<i128>>, NoMemory>
     ensures { IfOk result (λ o. SomeIff o (NarrowExprs (exprs_of es.now) (store_in memory.now)) (values (exprs_of es.now) (store_in memory.now))) }
 {
@@ -107,7 +111,11 @@ pub fn evaluate_all(
 /// The truth of a test, where all its parts are narrow.
 #[cycle(is_true)]
 #[tactic(auto, unfolding(toy_imp::specs::Truth::truth, crate::specs::Narrow::NarrowTest))]
-pub fn is_true(alloc: Global, t: &Test, memory: &Memory) -> Result<Option<bool>, NoMemory>
+pub fn is_true<'a>(
+    alloc: Global,
+    t: &'a Test,
+    memory: &Memory<'a>,
+) -> Result<Option<bool>, NoMemory>
     ensures { IfOk result (λ o. SomeIff o (NarrowTest t.now (store_in memory.now)) (truth t.now (store_in memory.now))) }
 {
     match &t.node {
@@ -153,11 +161,11 @@ pub fn is_true(alloc: Global, t: &Test, memory: &Memory) -> Result<Option<bool>,
 
 /// The truth of two tests, where all their parts are narrow.
 #[cycle(is_true)]
-fn are_true(
+fn are_true<'a>(
     alloc: Global,
-    t: &Test,
-    u: &Test,
-    memory: &Memory,
+    t: &'a Test,
+    u: &'a Test,
+    memory: &Memory<'a>,
 ) -> Result<Option<(bool, bool)>, NoMemory>
     ensures { IfOk result (λ o. SomeIff o (NarrowTest t.now (store_in memory.now) × NarrowTest u.now (store_in memory.now)) (truth t.now (store_in memory.now), truth u.now (store_in memory.now))) }
 {

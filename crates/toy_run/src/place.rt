@@ -1,10 +1,11 @@
 //! A cell of a store as a key: a name and indices.
 //! Places are in the order in which a run lists its cells, by `specs/Place.antt`.
 
-ghost use Rattle.std.specs.Prelude.{◌≡◌, Some, refl};
+ghost use Rattle.std.specs.Prelude.{◌≡◌, Some, length, refl};
 ghost use Rattle.std.specs.Cmp;
 ghost use Rattle.std.specs.Cmp.Rules.{comparing};
-ghost use Rattle.std.specs.Ordering.{eq_by_cmp};
+ghost use Rattle.std.specs.Cmp.Lexicographic.{slice_cmp};
+ghost use Rattle.std.specs.Ordering.{eq_by_cmp, nat_cmp, int_cmp, ordering_then};
 ghost use Rattle.std.proofs.Common.{rules};
 ghost use Rattle.std.proofs.lemmas.Cmp.{eq_by_cmp_equiv};
 ghost use Rattle.std.specs.Cmp.{partial_order_from_agreeing_total};
@@ -13,38 +14,38 @@ ghost use Rattle.toy_run.specs.Place.{place_cmp, place_total};
 use sqlite_items::Items;
 use std::cmp::Ordering;
 
-/// A name's bytes and indices.
+/// A name's bytes, which the program holds, and indices.
 #[derive(Drop)]
-pub struct Place {
-    pub name: Items<u8>,
+pub struct Place<'a> {
+    pub name: &'a [u8],
     pub indices: Items<i128>,
 }
 
-impl PartialEq for Place {
+impl<'a> PartialEq for Place<'a> {
     ghost eq = { λ x y. eq_by_cmp place_cmp x y };
 
     ghost laws = { Cmp.partial_equiv_from_equiv (eq_by_cmp_equiv place_total) };
 
-    fn eq(&self, other: &Place) -> bool {
+    fn eq(&self, other: &Place<'a>) -> bool {
         self.cmp(other).is_eq()
     }
 }
 
-impl Eq for Place {
+impl<'a> Eq for Place<'a> {
     ghost laws = { eq_by_cmp_equiv place_total };
 }
 
-impl PartialOrd for Place {
+impl<'a> PartialOrd for Place<'a> {
     ghost partial_cmp = { λ x y. Some (place_cmp x y) };
 
     ghost laws = { partial_order_from_agreeing_total place_cmp place_total (λ x y. refl) (λ x y. refl) };
 
-    fn partial_cmp(&self, other: &Place) -> Option<Ordering> {
+    fn partial_cmp(&self, other: &Place<'a>) -> Option<Ordering> {
         Some(self.cmp(other))
     }
 }
 
-impl Ord for Place {
+impl<'a> Ord for Place<'a> {
     ghost cmp = { place_cmp };
 
     ghost total = { place_total };
@@ -53,10 +54,20 @@ impl Ord for Place {
 
     ghost matches_eq = { λ x y. refl };
 
-    fn cmp(&self, other: &Place) -> Ordering {
-        let names = self.name.as_slice().cmp(other.name.as_slice());
-        let counts = self.indices.len().cmp(&other.indices.len());
-        let indices = self.indices.as_slice().cmp(other.indices.as_slice());
-        names.then(counts.then(indices))
+    fn cmp(&self, other: &Place<'a>) -> Ordering {
+        match self.name.cmp(other.name) {
+            Ordering::Equal => compare_indices(self.indices.as_slice(), other.indices.as_slice()),
+            unequal => unequal,
+        }
+    }
+}
+
+// By the number of the indices, then by the indices.
+fn compare_indices(a: &[i128], b: &[i128]) -> Ordering
+    ensures { result ≡ ordering_then (nat_cmp (length a.now) (length b.now)) (slice_cmp int_cmp a.now b.now) }
+{
+    match a.len().cmp(&b.len()) {
+        Ordering::Equal => a.cmp(b),
+        unequal => unequal,
     }
 }

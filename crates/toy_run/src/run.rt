@@ -54,7 +54,7 @@ fn do_item<'a>(
     alloc: Global,
     item: Item<'a>,
     work: &mut Vec<Item<'a>>,
-    memory: &mut Memory,
+    memory: &mut Memory<'a>,
 ) -> Result<Width, NoMemory>
     ensures { IfOk result (λ w. Does (first_of item.entry) (store_in memory.old) (rest_of item.entry (work_of work.old.items)) w (store_in memory.new) (work_of work.new.items)) }
 {
@@ -79,7 +79,7 @@ fn do_stmt<'a>(
     s: &'a Stmt,
     rest: &'a [Stmt],
     work: &mut Vec<Item<'a>>,
-    memory: &mut Memory,
+    memory: &mut Memory<'a>,
 ) -> Result<Width, NoMemory>
     ensures { IfOk result (λ w. Does (act s.now) (store_in memory.old) (before (block_of rest.now) (work_of work.old.items)) w (store_in memory.new) (work_of work.new.items)) }
 {

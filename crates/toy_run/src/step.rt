@@ -30,11 +30,11 @@ pub enum Width {
 #[tactic(auto, unfolding(toy_imp::specs::Run::step, crate::specs::Narrow::NarrowItem))]
 pub fn do_put<'a>(
     alloc: Global,
-    x: &Name,
-    indices: &[Expr],
-    e: &Expr,
+    x: &'a Name,
+    indices: &'a [Expr],
+    e: &'a Expr,
     work: &mut Vec<Item<'a>>,
-    memory: &mut Memory,
+    memory: &mut Memory<'a>,
 ) -> Result<Width, NoMemory>
     ensures { IfOk result (λ w. Does (act (put x.now (exprs_of indices.now) e.now)) (store_in memory.old) (work_of work.old.items) w (store_in memory.new) (work_of work.new.items)) }
 {
@@ -44,8 +44,7 @@ pub fn do_put<'a>(
     let Some(value) = evaluate(alloc, e, memory)? else {
         return Ok(Width::Wide);
     };
-    let place = place(alloc, x, indices)?;
-    memory.write(place, value)?;
+    memory.write(place(x, indices), value)?;
     Ok(Width::Narrow)
 }
 
@@ -53,9 +52,9 @@ pub fn do_put<'a>(
 #[tactic(auto, unfolding(toy_imp::specs::Run::step, crate::specs::Narrow::NarrowItem))]
 pub fn do_assert<'a>(
     alloc: Global,
-    t: &Test,
+    t: &'a Test,
     work: &mut Vec<Item<'a>>,
-    memory: &Memory,
+    memory: &Memory<'a>,
 ) -> Result<Width, NoMemory>
     ensures { IfOk result (λ w. Does (act (assert_that t.now)) (store_in memory.now) (work_of work.old.items) w (store_in memory.now) (work_of work.new.items)) }
 {
@@ -72,11 +71,11 @@ pub fn do_assert<'a>(
 #[tactic(auto, unfolding(toy_imp::specs::Run::step, crate::specs::Narrow::NarrowItem))]
 pub fn do_if<'a>(
     alloc: Global,
-    t: &Test,
+    t: &'a Test,
     b: &'a Block,
     c: &'a Block,
     work: &mut Vec<Item<'a>>,
-    memory: &Memory,
+    memory: &Memory<'a>,
 ) -> Result<Width, NoMemory>
     ensures { IfOk result (λ w. Does (act (if_then t.now b.now c.now)) (store_in memory.now) (work_of work.old.items) w (store_in memory.now) (work_of work.new.items)) }
 {
@@ -97,10 +96,10 @@ pub fn do_while<'a>(
     alloc: Global,
     s: &'a Stmt,
     rest: &'a [Stmt],
-    t: &Test,
+    t: &'a Test,
     b: &'a Block,
     work: &mut Vec<Item<'a>>,
-    memory: &Memory,
+    memory: &Memory<'a>,
 ) -> Result<Width, NoMemory>
     requires { s.now ≡ while_do t.now b.now }
     ensures { IfOk result (λ w. Does (act (while_do t.now b.now)) (store_in memory.now) (before (block_of rest.now) (work_of work.old.items)) w (store_in memory.now) (work_of work.new.items)) }
@@ -122,18 +121,18 @@ pub fn do_while<'a>(
 pub fn do_for<'a>(
     alloc: Global,
     x: &'a Name,
-    low: &Expr,
-    high: &Expr,
+    low: &'a Expr,
+    high: &'a Expr,
     b: &'a Block,
     work: &mut Vec<Item<'a>>,
-    memory: &Memory,
+    memory: &Memory<'a>,
 ) -> Result<Width, NoMemory>
     ensures { IfOk result (λ w. Does (act (for_to x.now low.now high.now b.now)) (store_in memory.now) (work_of work.old.items) w (store_in memory.now) (work_of work.new.items)) }
 {
     let Some((low, high)) = evaluate_both(alloc, low, high, memory)? else {
         return Ok(Width::Wide);
     };
-    let old = read_variable(alloc, x, memory)?;
+    let old = read_variable(alloc, x, memory);
     push_item(work, Item::Restore(x, old))?;
     push_item(work, Item::Turns(x, low, high, b))?;
     Ok(Width::Narrow)
@@ -144,17 +143,17 @@ pub fn do_for<'a>(
 pub fn do_let<'a>(
     alloc: Global,
     x: &'a Name,
-    e: &Expr,
+    e: &'a Expr,
     b: &'a Block,
     work: &mut Vec<Item<'a>>,
-    memory: &mut Memory,
+    memory: &mut Memory<'a>,
 ) -> Result<Width, NoMemory>
     ensures { IfOk result (λ w. Does (act (let_in x.now e.now b.now)) (store_in memory.old) (work_of work.old.items) w (store_in memory.new) (work_of work.new.items)) }
 {
     let Some(value) = evaluate(alloc, e, memory)? else {
         return Ok(Width::Wide);
     };
-    let old = read_variable(alloc, x, memory)?;
+    let old = read_variable(alloc, x, memory);
     push_item(work, Item::Restore(x, old))?;
     push_block(work, b.stmts.as_slice())?;
     write_variable(alloc, x, value, memory)?;
@@ -170,7 +169,7 @@ pub fn do_turn<'a>(
     high: i128,
     b: &'a Block,
     work: &mut Vec<Item<'a>>,
-    memory: &mut Memory,
+    memory: &mut Memory<'a>,
 ) -> Result<Width, NoMemory>
     ensures { IfOk result (λ w. Does (turns x.now next high b.now) (store_in memory.old) (work_of work.old.items) w (store_in memory.new) (work_of work.new.items)) }
 {
@@ -183,22 +182,20 @@ pub fn do_turn<'a>(
 }
 
 /// What a variable holds.
-pub fn read_variable(alloc: Global, x: &Name, memory: &Memory) -> Result<i128, NoMemory>
-    ensures { IfOk result (λ v. v ≡ read (store_in memory.now) (variable x.now)) }
+pub fn read_variable<'a>(alloc: Global, x: &'a Name, memory: &Memory<'a>) -> i128
+    ensures { result ≡ read (store_in memory.now) (variable x.now) }
 {
-    let place = place(alloc, x, Items::new(alloc))?;
-    Ok(memory.read(&place))
+    memory.read(&place(x, Items::new(alloc)))
 }
 
 /// Lets a variable hold a value.
-pub fn write_variable(
+pub fn write_variable<'a>(
     alloc: Global,
-    x: &Name,
+    x: &'a Name,
     value: i128,
-    memory: &mut Memory,
+    memory: &mut Memory<'a>,
 ) -> Result<(), NoMemory>
     ensures { OnOk result (store_in memory.new ≡ write (store_in memory.old) (variable x.now) value) }
 {
-    let place = place(alloc, x, Items::new(alloc))?;
-    memory.write(place, value)
+    memory.write(place(x, Items::new(alloc)), value)
 }

@@ -1,7 +1,7 @@
 use Rattle.std.proofs.Common.{◌≡◌, ◌∙◌, ap, ap₂, arith}
 use Rattle.toy_imp.specs.Run.{before}
 use Rattle.toy_imp.specs.BlockView.{block_of}
-use Rattle.toy_run.specs.Stored.{store_of}
+use Rattle.toy_run.specs.Memory.{store_in}
 use Rattle.toy_run.specs.Work.{onto, work_of}
 use Rattle.toy_run.proofs.Counting.{to_do, starts, goes_on, stops_wide, stops_spent, stops_ended, stops_halted}
 use Rattle.toy_run.proofs.run.run_program.Goals as goal
@@ -16,7 +16,7 @@ pub returns-in-Halt : goal.returns-in-Halt
 returns-in-Halt c = (
   c.loop-item.invariant.0,
   record {
-    store = store_of c.loop-item.memory.cells.entries;
+    store = store_in c.loop-item.memory;
     comes_out = stops_halted c.loop-item.done _ _ _ _ _ _ c.in-Halt.is c.in-Some.ensures c.loop-item.invariant.1;
     narrow = c.loop-item.invariant.1.narrow;
     listed = c.in_ok-cells.ensures;
@@ -36,7 +36,7 @@ pub returns : goal.returns
 returns c = (
   c.loop-item.invariant.0,
   record {
-    store = store_of c.loop-item.memory.cells.entries;
+    store = store_in c.loop-item.memory;
     comes_out = stops_ended c.loop-item.done _ _ _ _ c.in_default.ensures c.loop-item.invariant.1;
     narrow = c.loop-item.invariant.1.narrow;
     listed = c.in_ok-cells-2.ensures;

@@ -1,7 +1,12 @@
-use Rattle.std.proofs.Common.{◌≡◌}
-use Rattle.std.specs.Prelude.{map}
-use Rattle.toy_run.proofs.Listing.{to_cell}
+use Rattle.std.proofs.Common.{◌≡◌, ◌≢◌, Some, pos, length}
+use Rattle.std.specs.BTreeMap as tree
+use Rattle.toy_run.specs.Place.{place_cmp}
+use Rattle.toy_run.specs.Stored.{store_by}
+use Rattle.toy_run.specs.declared.place.Place.{Place}
 use Rattle.toy_run.proofs.memory.Memory.into_cells.Given as goal
 
-abbrev pub invariant-loop-place : goal.invariant-loop-place
-invariant-loop-place l = l.cells ≡ map to_cell l.yielded
+abbrev pub invariant-loop-name : goal.invariant-loop-name
+invariant-loop-name l = (store_by l.variables.entries l.cells.entries ≡ store_by l.fn.self.variables.entries l.fn.self.cells.entries) × ((p : Place) → tree.get place_cmp l.cells p ≢ Some (pos 0))
+
+abbrev pub decreases-loop-name : goal.decreases-loop-name
+decreases-loop-name l = length l.variables.entries

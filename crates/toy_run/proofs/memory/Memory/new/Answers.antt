@@ -1,5 +1,5 @@
-use Rattle.toy_run.proofs.Stores.{made_of_none}
+use Rattle.toy_run.proofs.Variables.{nothing_held}
 use Rattle.toy_run.proofs.memory.Memory.new.Goals as goal
 
 pub returns : goal.returns
-returns c = made_of_none _ c.new.ensures.empty
+returns c = nothing_held _ _ c.new.ensures.empty c.new-2.ensures.empty
