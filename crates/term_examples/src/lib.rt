@@ -1,5 +1,5 @@
 //! Terms, literals, conjuncts and obligations read from a notation of words in prefix order, for worked examples
-//! and benches. It promises nothing; `term_tests` shows what is read.
+//! and benches. It promises nothing; tests above it show what is read.
 #![tactic(auto)]
 
 mod obligations;
