@@ -53,27 +53,27 @@ module _ (A : Type 0) (i : Instance) (T : List Entry) (l r : Store) (faithful : 
                     (
                       λ h. law_10_true A i T l r clause h none,
                       (
-                        λ h. law_11_true A i T l r faithful ob.conditions meets clause h c none,
+                        λ h. law_11_true A i T l r faithful ob meets clause h c none,
                         (
-                          λ h. law_12_true A i T l r faithful ob.conditions meets ob.params fits clause h c none,
+                          λ h. law_12_true A i T l r faithful ob meets fits clause h c none,
                           (
-                            λ h. law_13_true A i T l r faithful ob.conditions meets clause h c none,
+                            λ h. law_13_true A i T l r faithful ob meets clause h c none,
                             (
-                              λ h. law_14_true A i T l r faithful ob.conditions meets clause h none,
+                              λ h. law_14_true A i T l r faithful ob meets clause h none,
                               (
-                                λ h. law_15_true A i T l r faithful ob.conditions meets clause h none,
+                                λ h. law_15_true A i T l r faithful ob meets clause h none,
                                 (
-                                  λ h. law_16_true A i T l r faithful ob.conditions meets clause h c none,
+                                  λ h. law_16_true A i T l r faithful ob meets clause h c none,
                                   (
-                                    λ h. law_17_true A i T l r faithful ob.conditions meets clause h c none,
+                                    λ h. law_17_true A i T l r faithful ob meets clause h c none,
                                     (
-                                      λ h. law_18_true A i T l r faithful ob.conditions meets clause h c none,
+                                      λ h. law_18_true A i T l r faithful ob meets clause h c none,
                                       (
-                                        λ h. law_19_true A i T l r faithful ob.conditions meets clause h none,
+                                        λ h. law_19_true A i T l r faithful ob meets clause h none,
                                         (
-                                          λ h. law_20_true A i T l r faithful ob.conditions meets clause h none,
+                                          λ h. law_20_true A i T l r faithful ob meets clause h none,
                                           (
-                                            λ h. law_21_true A i T l r faithful ob.conditions meets clause h none,
+                                            λ h. law_21_true A i T l r faithful ob meets clause h none,
                                             (
                                               λ h. law_22_true A i T l r clause h none,
                                               (

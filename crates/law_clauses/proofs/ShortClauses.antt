@@ -62,56 +62,53 @@ some_row_append k (row ∷ rows) more = ap (λ b. (k == row.0 && row.1) || b) (s
 
 module _ (ob : Obligation) (k : ℕ) (not_1 : k ≢ 1) (not_5 : k ≢ 5) where
   sized : (n : ℕ) (xs : List Signed) → (n ≢ 1 → length xs ≢ 1) → (n ≢ 2 → length xs ≢ 2) → (n ≢ 3 → length xs ≢ 3) → Sized k n sizes (laws ob xs)
-  sized n xs one two three =
-      let all = ob.conditions in (
-        λ h. other k 1 (law_1 xs) not_1,
+  sized n xs one two three = (
+    λ h. other k 1 (law_1 xs) not_1,
+    (
+      λ h. fails k 2 _ (law_2_two xs (two h)),
+      (
+        λ h. fails k 3 _ (law_3_two xs (two h)),
         (
-          λ h. fails k 2 _ (law_2_two xs (two h)),
+          λ h. fails k 4 _ (law_4_one xs (one h)),
           (
-            λ h. fails k 3 _ (law_3_two xs (two h)),
+            λ h. other k 5 (law_5 xs) not_5,
             (
-              λ h. fails k 4 _ (law_4_one xs (one h)),
+              λ h. fails k 6 _ (law_6_one xs (one h)),
               (
-                λ h. other k 5 (law_5 xs) not_5,
+                λ h. fails k 7 _ (law_7_two xs (two h)),
                 (
-                  λ h. fails k 6 _ (law_6_one xs (one h)),
+                  λ h. fails k 8 _ (law_8_two xs (two h)),
                   (
-                    λ h. fails k 7 _ (law_7_two xs (two h)),
+                    λ h. fails k 9 _ (law_9_two xs (two h)),
                     (
-                      λ h. fails k 8 _ (law_8_two xs (two h)),
+                      λ h. fails k 10 _ (law_10_three xs (three h)),
                       (
-                        λ h. fails k 9 _ (law_9_two xs (two h)),
+                        λ h. fails k 11 _ (law_11_two ob xs (two h)),
                         (
-                          λ h. fails k 10 _ (law_10_three xs (three h)),
+                          λ h. fails k 12 _ (law_12_two ob xs (two h)),
                           (
-                            λ h. fails k 11 _ (law_11_two all xs (two h)),
+                            λ h. fails k 13 _ (law_13_three ob xs (three h)),
                             (
-                              λ h. fails k 12 _ (law_12_two ob.params all xs (two h)),
+                              λ h. fails k 14 _ (law_14_two ob xs (two h)),
                               (
-                                λ h. fails k 13 _ (law_13_three all xs (three h)),
+                                λ h. fails k 15 _ (law_15_three ob xs (three h)),
                                 (
-                                  λ h. fails k 14 _ (law_14_two all xs (two h)),
+                                  λ h. fails k 16 _ (law_16_two ob xs (two h)),
                                   (
-                                    λ h. fails k 15 _ (law_15_three all xs (three h)),
+                                    λ h. fails k 17 _ (law_17_three ob xs (three h)),
                                     (
-                                      λ h. fails k 16 _ (law_16_two all xs (two h)),
+                                      λ h. fails k 18 _ (law_18_one ob xs (one h)),
                                       (
-                                        λ h. fails k 17 _ (law_17_three all xs (three h)),
+                                        λ h. fails k 19 _ (law_19_two ob xs (two h)),
                                         (
-                                          λ h. fails k 18 _ (law_18_one all xs (one h)),
+                                          λ h. fails k 20 _ (law_20_three ob xs (three h)),
                                           (
-                                            λ h. fails k 19 _ (law_19_two all xs (two h)),
+                                            λ h. fails k 21 _ (law_21_one ob xs (one h)),
                                             (
-                                              λ h. fails k 20 _ (law_20_three all xs (three h)),
+                                              λ h. fails k 22 _ (law_22_three xs (three h)),
                                               (
-                                                λ h. fails k 21 _ (law_21_one all xs (one h)),
-                                                (
-                                                  λ h. fails k 22 _ (law_22_three xs (three h)),
-                                                  (
-                                                    λ h. fails k 23 _ (law_23_two xs (two h)),
-                                                    (λ h. fails k 24 _ (law_24_two xs (two h)), tt),
-                                                  ),
-                                                ),
+                                                λ h. fails k 23 _ (law_23_two xs (two h)),
+                                                (λ h. fails k 24 _ (law_24_two xs (two h)), tt),
                                               ),
                                             ),
                                           ),
@@ -132,7 +129,9 @@ module _ (ob : Obligation) (k : ℕ) (not_1 : k ≢ 1) (not_5 : k ≢ 5) where
             ),
           ),
         ),
-      )
+      ),
+    ),
+  )
 
   of_size : (n : ℕ) (xs : List Signed) → (n ≢ 1 → length xs ≢ 1) → (n ≢ 2 → length xs ≢ 2) → (n ≢ 3 → length xs ≢ 3) → is_clause ob k xs ≡ some_row k (kept n sizes (laws ob xs))
   unfolding is_clause

@@ -1,5 +1,5 @@
 -- The notation of the tables of laws and steps: small terms, obligations of which the parameters and conditions alone matter, and rows.
--- A row has a list of literals that is a clause of a law, and one with a single slip that is none.
+-- A row has a list of literals that is a clause of a law, and one with a single slip that is none, or one list under two obligations.
 use Rattle.std.specs.Prelude.{◌≡◌, ℕ, pos, true, false, List, [], None}
 use Rattle.toy_imp.specs.declared.condition.Condition.{Condition}
 use Rattle.toy_imp.specs.declared.param.Kind.{Kind}
@@ -48,3 +48,7 @@ plain = under [] []
 -- ---- rows
 abbrev pub Row : Obligation → ℕ → List Signed → List Signed → Type 0
 Row ob k right wrong = (is_clause ob k right ≡ true) × (is_clause ob k wrong ≡ false)
+
+-- .. and a list that is a clause where the parameters are of the kinds that the law names, and none where one is of another
+abbrev pub KindRow : ℕ → List Signed → Obligation → Obligation → Type 0
+KindRow k clause right wrong = (is_clause right k clause ≡ true) × (is_clause wrong k clause ≡ false)

@@ -16,10 +16,10 @@ abbrev pub laws : Obligation → List Signed → List (ℕ × Bool)
 laws ob clause =
     (1, law_1 clause) ∷ (2, law_2 clause) ∷ (3, law_3 clause) ∷ (4, law_4 clause) ∷ (5, law_5 clause) ∷ (6, law_6 clause)
     ∷ (7, law_7 clause) ∷ (8, law_8 clause) ∷ (9, law_9 clause) ∷ (10, law_10 clause)
-    ∷ (11, law_11 ob.conditions clause) ∷ (12, law_12 ob.params ob.conditions clause) ∷ (13, law_13 ob.conditions clause)
-    ∷ (14, law_14 ob.conditions clause) ∷ (15, law_15 ob.conditions clause) ∷ (16, law_16 ob.conditions clause)
-    ∷ (17, law_17 ob.conditions clause) ∷ (18, law_18 ob.conditions clause) ∷ (19, law_19 ob.conditions clause)
-    ∷ (20, law_20 ob.conditions clause) ∷ (21, law_21 ob.conditions clause)
+    ∷ (11, law_11 ob clause) ∷ (12, law_12 ob clause) ∷ (13, law_13 ob clause)
+    ∷ (14, law_14 ob clause) ∷ (15, law_15 ob clause) ∷ (16, law_16 ob clause)
+    ∷ (17, law_17 ob clause) ∷ (18, law_18 ob clause) ∷ (19, law_19 ob clause)
+    ∷ (20, law_20 ob clause) ∷ (21, law_21 ob clause)
     ∷ (22, law_22 clause) ∷ (23, law_23 clause) ∷ (24, law_24 clause) ∷ []
 
 unfoldable pub is_clause : Obligation → ℕ → List Signed → Bool

@@ -8,7 +8,7 @@ use Rattle.law_clauses.specs.ConditionLaws.{law_11, law_12, law_13, law_14, law_
 use Rattle.law_clauses.specs.NumberLaws.{law_22, law_23, law_24}
 
 abbrev pub laws_of_one : Obligation → List Signed → List (ℕ × Bool)
-laws_of_one ob clause = (4, law_4 clause) ∷ (6, law_6 clause) ∷ (18, law_18 ob.conditions clause) ∷ (21, law_21 ob.conditions clause) ∷ []
+laws_of_one ob clause = (4, law_4 clause) ∷ (6, law_6 clause) ∷ (18, law_18 ob clause) ∷ (21, law_21 ob clause) ∷ []
 
 -- of two literals: reads and writes, side conditions, numbers
 abbrev pub write_laws_of_two : List Signed → List (ℕ × Bool)
@@ -16,13 +16,13 @@ write_laws_of_two clause = (2, law_2 clause) ∷ (3, law_3 clause) ∷ (7, law_7
 
 abbrev pub condition_laws_of_two : Obligation → List Signed → List (ℕ × Bool)
 condition_laws_of_two ob clause =
-    (11, law_11 ob.conditions clause) ∷ (12, law_12 ob.params ob.conditions clause) ∷ (14, law_14 ob.conditions clause)
-    ∷ (16, law_16 ob.conditions clause) ∷ (19, law_19 ob.conditions clause) ∷ []
+    (11, law_11 ob clause) ∷ (12, law_12 ob clause) ∷ (14, law_14 ob clause)
+    ∷ (16, law_16 ob clause) ∷ (19, law_19 ob clause) ∷ []
 
 abbrev pub number_laws_of_two : List Signed → List (ℕ × Bool)
 number_laws_of_two clause = (23, law_23 clause) ∷ (24, law_24 clause) ∷ []
 
 abbrev pub laws_of_three : Obligation → List Signed → List (ℕ × Bool)
 laws_of_three ob clause =
-    (10, law_10 clause) ∷ (13, law_13 ob.conditions clause) ∷ (15, law_15 ob.conditions clause)
-    ∷ (17, law_17 ob.conditions clause) ∷ (20, law_20 ob.conditions clause) ∷ (22, law_22 clause) ∷ []
+    (10, law_10 clause) ∷ (13, law_13 ob clause) ∷ (15, law_15 ob clause)
+    ∷ (17, law_17 ob clause) ∷ (20, law_20 ob clause) ∷ (22, law_22 clause) ∷ []

@@ -7,20 +7,24 @@ ghost use Rattle.law_clauses.specs.Signed.{signed_of};
 ghost use Rattle.law_clauses.specs.Shapes.{is_run};
 ghost use Rattle.law_clauses.specs.ConditionLaws.{law_11, law_12, law_13, law_14, written_at, law_15, law_16, law_17, law_18, law_19, law_20, law_21};
 
-use crate::listed::{constant, distinct, is_name, keeps, positive};
+use crate::listed::{
+    lists_commutes, lists_constant, lists_distinct, lists_ignores, lists_keeps, lists_positive,
+};
 use crate::shapes::{count, is_ev, is_get, is_num, is_run};
-use rule_terms::{Atom, Literal, StoreNode, StoreTerm, ValueNode, commute, ignores};
-use toy_imp::{Condition, Kind};
+use rule_terms::{Atom, Literal, Obligation, StoreNode, StoreTerm, ValueNode};
+use toy_imp::Kind;
 
 // A run that keeps an expression.
 #[tactic(auto, unfolding(crate::specs::ConditionLaws::law_11))]
-pub fn keeps_value(conditions: &[Condition], x: &Literal, y: &Literal) -> bool
-    ensures { result ≡ law_11 conditions.now (signed_of x.now ∷ signed_of y.now ∷ []) }
+pub fn keeps_value(ob: &Obligation, x: &Literal, y: &Literal) -> bool
+    ensures { result ≡ law_11 ob.now (signed_of x.now ∷ signed_of y.now ∷ []) }
 {
     match (x.sign, &x.atom, y.sign, &y.atom) {
         (false, Atom::Ends(r), true, Atom::SameValue(v, w)) => match (&r.node, &v.node) {
             (StoreNode::Run(k, s), ValueNode::Ev(e, t)) => {
-                keeps(conditions, *k, *e) && is_run(t.get(), *k, s.get()) && is_ev(w, *e, s.get())
+                lists_keeps(ob, Kind::Expr, *k, *e)
+                    && is_run(t.get(), *k, s.get())
+                    && is_ev(w, *e, s.get())
             }
             _ => false,
         },
@@ -30,15 +34,14 @@ pub fn keeps_value(conditions: &[Condition], x: &Literal, y: &Literal) -> bool
 
 // A run that keeps a variable.
 #[tactic(auto, unfolding(crate::specs::ConditionLaws::law_12))]
-pub fn keeps_variable(params: &[Kind], conditions: &[Condition], x: &Literal, y: &Literal) -> bool
-    ensures { result ≡ law_12 params.now conditions.now (signed_of x.now ∷ signed_of y.now ∷ []) }
+pub fn keeps_variable(ob: &Obligation, x: &Literal, y: &Literal) -> bool
+    ensures { result ≡ law_12 ob.now (signed_of x.now ∷ signed_of y.now ∷ []) }
 {
     match (x.sign, &x.atom, y.sign, &y.atom) {
         (false, Atom::Ends(r), true, Atom::SameValue(v, w)) => match (&r.node, &v.node) {
             (StoreNode::Run(k, s), ValueNode::Get(p, t)) => {
                 count(p) == 0
-                    && is_name(params, p.name)
-                    && keeps(conditions, *k, p.name)
+                    && lists_keeps(ob, Kind::Name, *k, p.name)
                     && is_run(t.get(), *k, s.get())
                     && is_get(w, p, s.get())
             }
@@ -56,13 +59,13 @@ fn across_run(k: u32, s: &StoreTerm, a: &StoreTerm, b: &StoreTerm) -> bool
 
 // A run that keeps a test.
 #[tactic(auto, unfolding(crate::specs::ConditionLaws::law_13))]
-pub fn keeps_test(conditions: &[Condition], x: &Literal, y: &Literal, z: &Literal) -> bool
-    ensures { result ≡ law_13 conditions.now (signed_of x.now ∷ signed_of y.now ∷ signed_of z.now ∷ []) }
+pub fn keeps_test(ob: &Obligation, x: &Literal, y: &Literal, z: &Literal) -> bool
+    ensures { result ≡ law_13 ob.now (signed_of x.now ∷ signed_of y.now ∷ signed_of z.now ∷ []) }
 {
     match (x.sign, &x.atom, y.sign, &y.atom, z.sign, &z.atom) {
         (false, Atom::Ends(r), false, Atom::Holds(q, a), true, Atom::Holds(p, b)) => match &r.node {
             StoreNode::Run(k, s) => {
-                keeps(conditions, *k, *q) && *p == *q && across_run(*k, s.get(), a, b)
+                lists_keeps(ob, Kind::Test, *k, *q) && *p == *q && across_run(*k, s.get(), a, b)
             }
             _ => false,
         },
@@ -72,14 +75,14 @@ pub fn keeps_test(conditions: &[Condition], x: &Literal, y: &Literal, z: &Litera
 
 // An expression that ignores a write.
 #[tactic(auto, unfolding(crate::specs::ConditionLaws::law_14))]
-pub fn value_ignores(conditions: &[Condition], x: &Literal, y: &Literal) -> bool
-    ensures { result ≡ law_14 conditions.now (signed_of x.now ∷ signed_of y.now ∷ []) }
+pub fn value_ignores(ob: &Obligation, x: &Literal, y: &Literal) -> bool
+    ensures { result ≡ law_14 ob.now (signed_of x.now ∷ signed_of y.now ∷ []) }
 {
     match (x.sign, &x.atom, y.sign, &y.atom) {
         (false, Atom::SameName(n, m), true, Atom::SameValue(v, w)) => match &v.node {
             ValueNode::Ev(e, t) => match &t.get().node {
                 StoreNode::Put(s, p, _) => {
-                    ignores(conditions, *e, *m) && *n == p.name && is_ev(w, *e, s.get())
+                    lists_ignores(ob, Kind::Expr, *e, *m) && *n == p.name && is_ev(w, *e, s.get())
                 }
                 _ => false,
             },
@@ -100,12 +103,12 @@ fn written_at(n: u32, s: &StoreTerm, t: &StoreTerm) -> bool
 
 // A test that ignores a write.
 #[tactic(auto, unfolding(crate::specs::ConditionLaws::law_15))]
-pub fn test_ignores(conditions: &[Condition], x: &Literal, y: &Literal, z: &Literal) -> bool
-    ensures { result ≡ law_15 conditions.now (signed_of x.now ∷ signed_of y.now ∷ signed_of z.now ∷ []) }
+pub fn test_ignores(ob: &Obligation, x: &Literal, y: &Literal, z: &Literal) -> bool
+    ensures { result ≡ law_15 ob.now (signed_of x.now ∷ signed_of y.now ∷ signed_of z.now ∷ []) }
 {
     match (x.sign, &x.atom, y.sign, &y.atom, z.sign, &z.atom) {
         (false, Atom::SameName(n, m), false, Atom::Holds(q, a), true, Atom::Holds(p, b)) => {
-            ignores(conditions, *q, *m)
+            lists_ignores(ob, Kind::Test, *q, *m)
                 && *p == *q
                 && (written_at(*n, a, b) || written_at(*n, b, a))
         }
@@ -115,14 +118,14 @@ pub fn test_ignores(conditions: &[Condition], x: &Literal, y: &Literal, z: &Lite
 
 // A run that ignores a write.
 #[tactic(auto, unfolding(crate::specs::ConditionLaws::law_16))]
-pub fn run_ignores(conditions: &[Condition], x: &Literal, y: &Literal) -> bool
-    ensures { result ≡ law_16 conditions.now (signed_of x.now ∷ signed_of y.now ∷ []) }
+pub fn run_ignores(ob: &Obligation, x: &Literal, y: &Literal) -> bool
+    ensures { result ≡ law_16 ob.now (signed_of x.now ∷ signed_of y.now ∷ []) }
 {
     match (x.sign, &x.atom, y.sign, &y.atom) {
         (false, Atom::SameName(n, m), true, Atom::SameStore(a, b)) => match (&a.node, &b.node) {
             (StoreNode::Run(k, t), StoreNode::Put(u, q, w)) => match &t.get().node {
                 StoreNode::Put(s, p, v) => {
-                    ignores(conditions, *k, *m)
+                    lists_ignores(ob, Kind::Stmt, *k, *m)
                         && *n == p.name
                         && is_run(u.get(), *k, s.get())
                         && q.same(p)
@@ -138,14 +141,14 @@ pub fn run_ignores(conditions: &[Condition], x: &Literal, y: &Literal) -> bool
 
 // A run that ignores a cell.
 #[tactic(auto, unfolding(crate::specs::ConditionLaws::law_17))]
-pub fn run_leaves(conditions: &[Condition], x: &Literal, y: &Literal, z: &Literal) -> bool
-    ensures { result ≡ law_17 conditions.now (signed_of x.now ∷ signed_of y.now ∷ signed_of z.now ∷ []) }
+pub fn run_leaves(ob: &Obligation, x: &Literal, y: &Literal, z: &Literal) -> bool
+    ensures { result ≡ law_17 ob.now (signed_of x.now ∷ signed_of y.now ∷ signed_of z.now ∷ []) }
 {
     match (x.sign, &x.atom, y.sign, &y.atom, z.sign, &z.atom) {
         (false, Atom::Ends(r), false, Atom::SameName(n, m), true, Atom::SameValue(v, w)) => {
             match (&r.node, &v.node) {
                 (StoreNode::Run(k, s), ValueNode::Get(p, t)) => {
-                    ignores(conditions, *k, *m)
+                    lists_ignores(ob, Kind::Stmt, *k, *m)
                         && *n == p.name
                         && is_run(t.get(), *k, s.get())
                         && is_get(w, p, s.get())
@@ -159,14 +162,14 @@ pub fn run_leaves(conditions: &[Condition], x: &Literal, y: &Literal, z: &Litera
 
 // Two runs in either order.
 #[tactic(auto, unfolding(crate::specs::ConditionLaws::law_18))]
-pub fn runs_commute(conditions: &[Condition], x: &Literal) -> bool
-    ensures { result ≡ law_18 conditions.now (signed_of x.now ∷ []) }
+pub fn runs_commute(ob: &Obligation, x: &Literal) -> bool
+    ensures { result ≡ law_18 ob.now (signed_of x.now ∷ []) }
 {
     match (x.sign, &x.atom) {
         (true, Atom::SameStore(a, b)) => match (&a.node, &b.node) {
             (StoreNode::Run(k, t), StoreNode::Run(i, u)) => match &t.get().node {
                 StoreNode::Run(j, s) => {
-                    commute(conditions, *j, *k) && *i == *j && is_run(u.get(), *k, s.get())
+                    lists_commutes(ob, *j, *k) && *i == *j && is_run(u.get(), *k, s.get())
                 }
                 _ => false,
             },
@@ -178,13 +181,13 @@ pub fn runs_commute(conditions: &[Condition], x: &Literal) -> bool
 
 // A positive expression.
 #[tactic(auto, unfolding(crate::specs::ConditionLaws::law_19))]
-pub fn is_at_least_one(conditions: &[Condition], x: &Literal, y: &Literal) -> bool
-    ensures { result ≡ law_19 conditions.now (signed_of x.now ∷ signed_of y.now ∷ []) }
+pub fn is_at_least_one(ob: &Obligation, x: &Literal, y: &Literal) -> bool
+    ensures { result ≡ law_19 ob.now (signed_of x.now ∷ signed_of y.now ∷ []) }
 {
     match (x.sign, &x.atom, y.sign, &y.atom) {
         (false, Atom::Ends(s), true, Atom::AtMost(a, v, c)) => match &v.node {
             ValueNode::Ev(e, t) => {
-                positive(conditions, *e) && is_num(a, 1) && t.get().same(s) && *c == 0
+                lists_positive(ob, *e) && is_num(a, 1) && t.get().same(s) && *c == 0
             }
             _ => false,
         },
@@ -194,12 +197,12 @@ pub fn is_at_least_one(conditions: &[Condition], x: &Literal, y: &Literal) -> bo
 
 // A constant expression.
 #[tactic(auto, unfolding(crate::specs::ConditionLaws::law_20))]
-pub fn is_constant_value(conditions: &[Condition], x: &Literal, y: &Literal, z: &Literal) -> bool
-    ensures { result ≡ law_20 conditions.now (signed_of x.now ∷ signed_of y.now ∷ signed_of z.now ∷ []) }
+pub fn is_constant_value(ob: &Obligation, x: &Literal, y: &Literal, z: &Literal) -> bool
+    ensures { result ≡ law_20 ob.now (signed_of x.now ∷ signed_of y.now ∷ signed_of z.now ∷ []) }
 {
     match (x.sign, &x.atom, y.sign, &y.atom, z.sign, &z.atom) {
         (false, Atom::Ends(a), false, Atom::Ends(c), true, Atom::SameValue(v, w)) => match &v.node {
-            ValueNode::Ev(e, b) => constant(conditions, *e) && b.get().same(a) && is_ev(w, *e, c),
+            ValueNode::Ev(e, b) => lists_constant(ob, *e) && b.get().same(a) && is_ev(w, *e, c),
             _ => false,
         },
         _ => false,
@@ -208,11 +211,11 @@ pub fn is_constant_value(conditions: &[Condition], x: &Literal, y: &Literal, z: 
 
 // Two names that differ.
 #[tactic(auto, unfolding(crate::specs::ConditionLaws::law_21))]
-pub fn names_differ(conditions: &[Condition], x: &Literal) -> bool
-    ensures { result ≡ law_21 conditions.now (signed_of x.now ∷ []) }
+pub fn names_differ(ob: &Obligation, x: &Literal) -> bool
+    ensures { result ≡ law_21 ob.now (signed_of x.now ∷ []) }
 {
     match (x.sign, &x.atom) {
-        (false, Atom::SameName(n, m)) => distinct(conditions, *n, *m),
+        (false, Atom::SameName(n, m)) => lists_distinct(ob, *n, *m),
         _ => false,
     }
 }

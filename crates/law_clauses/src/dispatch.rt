@@ -26,8 +26,8 @@ fn is_clause_of_one(ob: &Obligation, k: u32, x: &Literal) -> bool
     match k {
         4 => reads_past_count(x),
         6 => side_ends(x),
-        18 => runs_commute(ob.conditions.as_slice(), x),
-        21 => names_differ(ob.conditions.as_slice(), x),
+        18 => runs_commute(ob, x),
+        21 => names_differ(ob, x),
         _ => false,
     }
 }
@@ -52,13 +52,12 @@ fn is_write_clause(k: u32, x: &Literal, y: &Literal) -> bool
 fn is_condition_clause(ob: &Obligation, k: u32, x: &Literal, y: &Literal) -> bool
     ensures { result ≡ some_row k (condition_laws_of_two ob.now (signed_of x.now ∷ signed_of y.now ∷ [])) }
 {
-    let conditions = ob.conditions.as_slice();
     match k {
-        11 => keeps_value(conditions, x, y),
-        12 => keeps_variable(ob.params.as_slice(), conditions, x, y),
-        14 => value_ignores(conditions, x, y),
-        16 => run_ignores(conditions, x, y),
-        19 => is_at_least_one(conditions, x, y),
+        11 => keeps_value(ob, x, y),
+        12 => keeps_variable(ob, x, y),
+        14 => value_ignores(ob, x, y),
+        16 => run_ignores(ob, x, y),
+        19 => is_at_least_one(ob, x, y),
         _ => false,
     }
 }
@@ -85,13 +84,12 @@ fn is_clause_of_two(ob: &Obligation, k: u32, x: &Literal, y: &Literal) -> bool
 fn is_clause_of_three(ob: &Obligation, k: u32, x: &Literal, y: &Literal, z: &Literal) -> bool
     ensures { result ≡ some_row k (laws_of_three ob.now (signed_of x.now ∷ signed_of y.now ∷ signed_of z.now ∷ [])) }
 {
-    let conditions = ob.conditions.as_slice();
     match k {
         10 => neither_ends(x, y, z),
-        13 => keeps_test(conditions, x, y, z),
-        15 => test_ignores(conditions, x, y, z),
-        17 => run_leaves(conditions, x, y, z),
-        20 => is_constant_value(conditions, x, y, z),
+        13 => keeps_test(ob, x, y, z),
+        15 => test_ignores(ob, x, y, z),
+        17 => run_leaves(ob, x, y, z),
+        20 => is_constant_value(ob, x, y, z),
         22 => exchanges_operands(x, y, z),
         _ => false,
     }

@@ -1,9 +1,11 @@
-//! Whether a side condition is listed, and whether a parameter stands for a name.
+//! Whether a side condition is listed of parameters of the kinds that a law names.
 //! `specs/Listed.antt` says what is looked for.
 
 ghost use Rattle.std.specs.Prelude.{◌≡◌};
-ghost use Rattle.law_clauses.specs.Listed.{is_keeps, is_positive, is_constant, is_distinct, keeps, positive, constant, distinct, is_name};
+ghost use Rattle.law_clauses.specs.Listed.{is_keeps, is_positive, is_constant, is_distinct, keeps, positive, constant, distinct, has_kind};
+ghost use Rattle.law_clauses.specs.Listed.{lists_keeps, lists_ignores, lists_commutes, lists_positive, lists_constant, lists_distinct};
 
+use rule_terms::{Obligation, commute, ignores};
 use toy_imp::{Condition, Kind};
 
 fn is_keeps(c: &Condition, k: u32, o: u32) -> bool
@@ -16,7 +18,7 @@ fn is_keeps(c: &Condition, k: u32, o: u32) -> bool
 }
 
 #[tactic(auto, unfolding(crate::specs::Listed::keeps))]
-pub fn keeps(conditions: &[Condition], k: u32, o: u32) -> bool
+fn keeps(conditions: &[Condition], k: u32, o: u32) -> bool
     ensures { result ≡ keeps conditions.now k o }
 {
     for condition in conditions {
@@ -37,7 +39,7 @@ fn is_positive(c: &Condition, e: u32) -> bool
 }
 
 #[tactic(auto, unfolding(crate::specs::Listed::positive))]
-pub fn positive(conditions: &[Condition], e: u32) -> bool
+fn positive(conditions: &[Condition], e: u32) -> bool
     ensures { result ≡ positive conditions.now e }
 {
     for condition in conditions {
@@ -58,7 +60,7 @@ fn is_constant(c: &Condition, e: u32) -> bool
 }
 
 #[tactic(auto, unfolding(crate::specs::Listed::constant))]
-pub fn constant(conditions: &[Condition], e: u32) -> bool
+fn constant(conditions: &[Condition], e: u32) -> bool
     ensures { result ≡ constant conditions.now e }
 {
     for condition in conditions {
@@ -80,7 +82,7 @@ fn is_distinct(c: &Condition, x: u32, y: u32) -> bool
 
 // In either order.
 #[tactic(auto, unfolding(crate::specs::Listed::distinct))]
-pub fn distinct(conditions: &[Condition], x: u32, y: u32) -> bool
+fn distinct(conditions: &[Condition], x: u32, y: u32) -> bool
     ensures { result ≡ distinct conditions.now x y }
 {
     for condition in conditions {
@@ -91,11 +93,66 @@ pub fn distinct(conditions: &[Condition], x: u32, y: u32) -> bool
     false
 }
 
-pub fn is_name(params: &[Kind], x: u32) -> bool
-    ensures { result ≡ is_name params.now x }
+fn has_kind(params: &[Kind], wanted: Kind, k: u32) -> bool
+    ensures { result ≡ has_kind params.now wanted k }
 {
-    match params.get(x as usize) {
-        Some(Kind::Name) => true,
-        _ => false,
+    match params.get(k as usize) {
+        Some(kind) => *kind == wanted,
+        None => false,
     }
+}
+
+// ---- the conditions of an obligation, of parameters of these kinds
+#[tactic(auto, unfolding(crate::specs::Listed::lists_keeps))]
+pub fn lists_keeps(ob: &Obligation, wanted: Kind, k: u32, o: u32) -> bool
+    ensures { result ≡ lists_keeps ob.now wanted k o }
+{
+    let params = ob.params.as_slice();
+    has_kind(params, Kind::Stmt, k)
+        && has_kind(params, wanted, o)
+        && keeps(ob.conditions.as_slice(), k, o)
+}
+
+#[tactic(auto, unfolding(crate::specs::Listed::lists_ignores))]
+pub fn lists_ignores(ob: &Obligation, wanted: Kind, k: u32, x: u32) -> bool
+    ensures { result ≡ lists_ignores ob.now wanted k x }
+{
+    let params = ob.params.as_slice();
+    has_kind(params, wanted, k)
+        && has_kind(params, Kind::Name, x)
+        && ignores(ob.conditions.as_slice(), k, x)
+}
+
+#[tactic(auto, unfolding(crate::specs::Listed::lists_commutes))]
+pub fn lists_commutes(ob: &Obligation, j: u32, k: u32) -> bool
+    ensures { result ≡ lists_commutes ob.now j k }
+{
+    let params = ob.params.as_slice();
+    has_kind(params, Kind::Stmt, j)
+        && has_kind(params, Kind::Stmt, k)
+        && commute(ob.conditions.as_slice(), j, k)
+}
+
+#[tactic(auto, unfolding(crate::specs::Listed::lists_positive))]
+pub fn lists_positive(ob: &Obligation, e: u32) -> bool
+    ensures { result ≡ lists_positive ob.now e }
+{
+    has_kind(ob.params.as_slice(), Kind::Expr, e) && positive(ob.conditions.as_slice(), e)
+}
+
+#[tactic(auto, unfolding(crate::specs::Listed::lists_constant))]
+pub fn lists_constant(ob: &Obligation, e: u32) -> bool
+    ensures { result ≡ lists_constant ob.now e }
+{
+    has_kind(ob.params.as_slice(), Kind::Expr, e) && constant(ob.conditions.as_slice(), e)
+}
+
+#[tactic(auto, unfolding(crate::specs::Listed::lists_distinct))]
+pub fn lists_distinct(ob: &Obligation, x: u32, y: u32) -> bool
+    ensures { result ≡ lists_distinct ob.now x y }
+{
+    let params = ob.params.as_slice();
+    has_kind(params, Kind::Name, x)
+        && has_kind(params, Kind::Name, y)
+        && distinct(ob.conditions.as_slice(), x, y)
 }
