@@ -6,6 +6,7 @@ pub mod Each
 pub mod Meant
 pub mod NumberClauses
 pub mod NumberTable
+pub mod Numbered
 pub mod Pairs
 pub mod Same
 pub mod ShortClauses

@@ -1,8 +1,11 @@
+pub mod ArgumentView
+pub mod Arguments
 pub mod ClauseLaws
 pub mod ConditionLaws
 pub mod Laws
 pub mod Listed
 pub mod NumberLaws
+pub mod Offsets
 pub mod Shapes
 pub mod ShortLaws
 pub mod Signed

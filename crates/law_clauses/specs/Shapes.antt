@@ -1,7 +1,7 @@
 -- Whether a term is the one that a constructor makes of these arguments.
 use Rattle.std.specs.Prelude.{ℕ, ℤ, Bool, false, ◌==◌, ◌&&◌}
 use Rattle.std.specs.Ordering.{int_eq}
-use Rattle.rule_terms.specs.Term.{StoreTerm, run, ValueTerm, num, get, ev, add, mul, ValueTerms, Place}
+use Rattle.rule_terms.specs.Term.{StoreTerm, put, run, ValueTerm, num, get, ev, add, sub, mul, ValueTerms, Place}
 use Rattle.rule_terms.specs.Order.{store_same, value_same, place_same}
 
 abbrev pub place : ℕ → ValueTerms → Place
@@ -10,6 +10,10 @@ place x is = record { name = x; indices = is }
 unfoldable pub is_run : StoreTerm → ℕ → StoreTerm → Bool
 is_run (run j t) k s = j == k && store_same t s
 is_run _ k s = false
+
+unfoldable pub is_put : StoreTerm → StoreTerm → ℕ → ValueTerms → ValueTerm → Bool
+is_put (put t y js w) s x is v = store_same t s && (place_same (place y js) (place x is) && value_same w v)
+is_put _ s x is v = false
 
 unfoldable pub is_num : ValueTerm → ℤ → Bool
 is_num (num y) z = int_eq y z
@@ -26,6 +30,10 @@ is_ev _ k s = false
 unfoldable pub is_add : ValueTerm → ValueTerm → ValueTerm → Bool
 is_add (add a b) c d = value_same a c && value_same b d
 is_add _ c d = false
+
+unfoldable pub is_sub : ValueTerm → ValueTerm → ValueTerm → Bool
+is_sub (sub a b) c d = value_same a c && value_same b d
+is_sub _ c d = false
 
 unfoldable pub is_mul : ValueTerm → ValueTerm → ValueTerm → Bool
 is_mul (mul a b) c d = value_same a c && value_same b d

@@ -3,17 +3,21 @@
 //! `specs/ClauseLaws.antt` says what their clauses give.
 #![tactic(auto)]
 
+mod arguments;
 mod condition_laws;
 mod dispatch;
 pub mod laws;
 mod listed;
 mod literals;
 mod number_laws;
+mod offsets;
 mod read_back;
 mod shapes;
 mod write_laws;
 mod written_alike;
 
+pub use arguments::{Argument, same_store_top, same_value_top, store_argument, value_argument};
 pub use dispatch::is_clause;
 pub use literals::{is_negation, same_signed};
-pub use shapes::{count, is_num};
+pub use offsets::{Offset, split_offset};
+pub use shapes::{count, is_add, is_ev, is_get, is_mul, is_num, is_put, is_run, is_sub};

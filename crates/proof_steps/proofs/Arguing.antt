@@ -5,7 +5,8 @@ use Rattle.std.proofs.lemmas.List.{drop_all}
 use Rattle.rule_terms.specs.Term.{StoreTerm, put, ValueTerm, get, ValueTerms, no_terms, term}
 use Rattle.term_meaning.specs.Indices.{count}
 use Rattle.proof_steps.specs.declared.refutation.Step.{Step}
-use Rattle.proof_steps.specs.Replaced.{Argument, of_name, of_store, of_value, index_arguments, store_arguments, value_arguments, left_by_pair, left_by_pairs, all_used, replaced}
+use Rattle.law_clauses.specs.Arguments.{Argument, of_name, of_store, of_value, index_arguments, store_arguments, value_arguments}
+use Rattle.proof_steps.specs.Replaced.{left_by_pair, left_by_pairs, all_used, replaced}
 
 pairs_behind : (earlier : List Step) (o : Option (List ℕ)) (is js : ValueTerms) (more others : List Argument) → count is ≡ count js →
     left_by_pairs earlier o (index_arguments is more) (index_arguments js others)

@@ -19,7 +19,8 @@ use Rattle.proof_steps.specs.declared.refutation.SumRow.TheVariants.{Of}
 use Rattle.proof_steps.specs.declared.refutation.Refutation.TheOpen.{Refutation-F}
 use Rattle.proof_steps.specs.declared.refutation.Refutation.TheVariants.{Leaf}
 use Rattle.proof_steps.specs.Cited.{cited}
-use Rattle.proof_steps.specs.Replaced.{store_top, left_by_pair, left_by_pairs, alike, carried}
+use Rattle.law_clauses.specs.Arguments.{store_top}
+use Rattle.proof_steps.specs.Replaced.{left_by_pair, left_by_pairs, alike, carried}
 use Rattle.proof_steps.specs.Sums.{bound_of, row_bound, adds_up}
 use Rattle.proof_steps.specs.Steps.{by_known, by_itself, by_law, all_negated, step_holds, summed}
 use Rattle.proof_steps.specs.Refutes.{is_absurd, leaf_closes, refutes_layer, refutes}

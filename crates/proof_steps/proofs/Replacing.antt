@@ -20,7 +20,8 @@ use Rattle.law_clauses.proofs.Each.{Each, IfThere}
 use Rattle.law_clauses.proofs.Meant.{IsTrueHere}
 use Rattle.proof_steps.specs.declared.refutation.Step.{Step}
 use Rattle.proof_steps.specs.Cited.{fact}
-use Rattle.proof_steps.specs.Replaced.{Argument, of_name, of_store, of_value, index_arguments, store_arguments, value_arguments, store_top, value_top, identical, equality, says, left_by_equality, left_by_pair, left_by_pairs, all_used, replaced, alike, carried_atom, carried}
+use Rattle.law_clauses.specs.Arguments.{Argument, of_name, of_store, of_value, index_arguments, store_arguments, value_arguments, store_top, value_top, identical, equality}
+use Rattle.proof_steps.specs.Replaced.{says, left_by_equality, left_by_pair, left_by_pairs, all_used, replaced, alike, carried_atom, carried}
 use Rattle.proof_steps.proofs.Citing.{StepIsTrue, fact_true, that_true}
 
 used_there : (o : Option (List ℕ)) → all_used o ≡ true → is_some o ≡ true

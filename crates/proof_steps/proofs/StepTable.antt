@@ -14,8 +14,9 @@ use Rattle.proof_steps.specs.declared.refutation.By.TheVariants.{Given, Known, R
 use Rattle.proof_steps.specs.declared.refutation.Step.{Step}
 use Rattle.proof_steps.specs.declared.refutation.SumRow.TheVariants.{Of, Back, Num, Off, OffBack}
 use Rattle.proof_steps.specs.Cited.{cited}
-use Rattle.proof_steps.specs.Replaced.{store_top, value_top, left_by_pair, left_by_pairs, alike, carried}
-use Rattle.proof_steps.specs.Offsets.{offset}
+use Rattle.law_clauses.specs.Arguments.{store_top, value_top}
+use Rattle.proof_steps.specs.Replaced.{left_by_pair, left_by_pairs, alike, carried}
+use Rattle.law_clauses.specs.Offsets.{offset}
 use Rattle.proof_steps.specs.Sums.{bound_of, bound_back, row_bound, adds_up}
 use Rattle.proof_steps.specs.Steps.{by_known, by_itself, flipped, chained, by_law, all_negated, met, summed, step_holds}
 use Rattle.proof_steps.proofs.Examples.{yes, no, step}

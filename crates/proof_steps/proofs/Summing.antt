@@ -19,7 +19,7 @@ use Rattle.law_clauses.proofs.Meant.{IsTrueHere}
 use Rattle.proof_steps.specs.declared.refutation.Step.{Step}
 use Rattle.proof_steps.specs.declared.refutation.SumRow.{SumRow}
 use Rattle.proof_steps.specs.declared.refutation.SumRow.TheVariants.{Of, Back, Num, Off, OffBack}
-use Rattle.proof_steps.specs.Offsets.{offset}
+use Rattle.law_clauses.specs.Offsets.{offset}
 use Rattle.proof_steps.specs.Cited.{fact}
 use Rattle.proof_steps.specs.Sums.{Bound, bound_of, bound_back, over, under, row_bound, goes_on, goes_on_by, adds_up}
 use Rattle.proof_steps.specs.Steps.{met, summed}

@@ -1,6 +1,5 @@
 pub mod Cited
 pub mod Leaves
-pub mod Offsets
 pub mod RefuteLaws
 pub mod Refutes
 pub mod Replaced

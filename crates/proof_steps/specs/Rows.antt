@@ -4,7 +4,6 @@ use Rattle.std.specs.Prelude.{ℤ, ◌+ℤ◌, Bool, true, false, Option, Some, 
 use Rattle.rule_terms.specs.Term.{ValueTerm, num}
 use Rattle.proof_steps.specs.declared.sums.Side.{Side}
 use Rattle.proof_steps.specs.declared.sums.Side.TheVariants.{Term, Number}
-use Rattle.proof_steps.specs.declared.sums.Offset.{Offset}
 use Rattle.proof_steps.specs.declared.sums.Row.{Row}
 use Rattle.proof_steps.specs.declared.sums.Reached.{Reached}
 use Rattle.proof_steps.specs.Sums.{Bound, goes_on}
@@ -12,9 +11,6 @@ use Rattle.proof_steps.specs.Sums.{Bound, goes_on}
 abbrev pub side_of : Side → ValueTerm
 side_of (Term v) = v.now
 side_of (Number z) = num z
-
-abbrev pub offset_by : Offset → ValueTerm × ℤ
-offset_by o = (o.base.now, o.by)
 
 abbrev pub bound_by : Row → Bound
 bound_by row = record { low = side_of row.low; high = side_of row.high; by = row.by }

@@ -7,7 +7,7 @@ use Rattle.law_clauses.specs.Signed.{Signed, plus, minus}
 use Rattle.proof_steps.specs.declared.refutation.Step.{Step}
 use Rattle.proof_steps.specs.declared.refutation.SumRow.{SumRow}
 use Rattle.proof_steps.specs.declared.refutation.SumRow.TheVariants.{Of, Back, Num, Off, OffBack}
-use Rattle.proof_steps.specs.Offsets.{offset}
+use Rattle.law_clauses.specs.Offsets.{offset}
 use Rattle.proof_steps.specs.Cited.{fact}
 
 -- the low value is at most the high one plus a number

@@ -6,7 +6,8 @@ ghost use Rattle.term_meaning.specs.Indices.{count};
 ghost use Rattle.rule_terms.specs.Term.{put, get};
 ghost use Rattle.law_clauses.specs.Signed.{signed_of};
 ghost use Rattle.proof_steps.specs.Cited.{fact};
-ghost use Rattle.proof_steps.specs.Replaced.{of_store, of_value, store_arguments, value_arguments, store_top, value_top, replaced, alike, carried_atom, carried};
+ghost use Rattle.law_clauses.specs.Arguments.{of_store, of_value, store_arguments, value_arguments, store_top, value_top};
+ghost use Rattle.proof_steps.specs.Replaced.{replaced, alike, carried_atom, carried};
 
 use crate::refutation::Step;
 use crate::replaced::{is_all_used, place_pairs, store_pair, value_pair};
@@ -78,7 +79,7 @@ fn is_read_replaced(
     is_all_used(from, at)
 }
 
-#[tactic(auto, using(crate::proofs::Arguing::nothing_replaced), unfolding(crate::specs::Replaced::store_top))]
+#[tactic(auto, using(crate::proofs::Arguing::nothing_replaced), unfolding(law_clauses::specs::Arguments::store_top))]
 fn are_stores_alike(earlier: &[Step], from: &[u32], a: &StoreTerm, b: &StoreTerm) -> bool
     ensures { result ≡ (store_top a.now b.now && replaced earlier.now from.now (store_arguments a.now) (store_arguments b.now)) }
 {
@@ -96,7 +97,7 @@ fn are_stores_alike(earlier: &[Step], from: &[u32], a: &StoreTerm, b: &StoreTerm
     }
 }
 
-#[tactic(auto, using(crate::proofs::Arguing::nothing_replaced), unfolding(crate::specs::Replaced::value_top))]
+#[tactic(auto, using(crate::proofs::Arguing::nothing_replaced), unfolding(law_clauses::specs::Arguments::value_top))]
 fn are_values_alike(earlier: &[Step], from: &[u32], a: &ValueTerm, b: &ValueTerm) -> bool
     ensures { result ≡ (value_top a.now b.now && replaced earlier.now from.now (value_arguments a.now) (value_arguments b.now)) }
 {

@@ -6,7 +6,8 @@ ghost use Rattle.std.specs.Prelude.{◌≡◌, [], ◌∷◌, drop, length};
 ghost use Rattle.std.specs.Option.{option_map};
 ghost use Rattle.term_meaning.specs.Indices.{count};
 ghost use Rattle.rule_terms.specs.TermView.{terms_of};
-ghost use Rattle.proof_steps.specs.Replaced.{of_name, of_store, of_value, index_arguments, left_by_pair, left_by_pairs, all_used};
+ghost use Rattle.law_clauses.specs.Arguments.{of_name, of_store, of_value, index_arguments};
+ghost use Rattle.proof_steps.specs.Replaced.{left_by_pair, left_by_pairs, all_used};
 
 use crate::cites::{says_names, says_stores, says_values};
 use crate::refutation::Step;

@@ -3,17 +3,17 @@
 
 ghost use Rattle.std.specs.Prelude.{◌≡◌, ◌≤◌, ◌^◌, ◌+ℤ◌, ◌-ℤ◌, neg_ℤ, pos, unsigned_abs, Some, IfSome};
 ghost use Rattle.std.specs.Option.{option_map};
-ghost use Rattle.rule_terms.specs.Term.{num, add, sub};
+ghost use Rattle.rule_terms.specs.Term.{num};
 ghost use Rattle.rule_terms.specs.Order.{value_same};
 ghost use Rattle.law_clauses.specs.Signed.{signed_of};
 ghost use Rattle.proof_steps.specs.Cited.{fact};
-ghost use Rattle.proof_steps.specs.Offsets.{offset};
+ghost use Rattle.law_clauses.specs.Offsets.{offset};
 ghost use Rattle.proof_steps.specs.Sums.{bound, bound_of, bound_back, over, under, row_bound, in_range, goes_on, adds_up};
 ghost use Rattle.proof_steps.specs.Steps.{summed};
-ghost use Rattle.proof_steps.specs.Rows.{side_of, offset_by, bound_by, reached, next_reached};
+ghost use Rattle.proof_steps.specs.Rows.{side_of, bound_by, reached, next_reached};
 
 use crate::refutation::{Step, SumRow};
-use law_clauses::is_num;
+use law_clauses::{is_num, split_offset};
 use rule_terms::{Atom, Literal, ValueNode, ValueTerm};
 
 /// The greatest magnitude of a row's number and of a sum.
@@ -24,13 +24,6 @@ const GREATEST: u128 = 1 << 100;
 enum Side<'a> {
     Term(&'a ValueTerm),
     Number(i64),
-}
-
-/// A term that a constant is added to, and the constant.
-#[derive(Clone, Copy)]
-struct Offset<'a> {
-    base: &'a ValueTerm,
-    by: i128,
 }
 
 /// The low side is at most the high one plus the number.
@@ -103,52 +96,6 @@ fn same_side(a: Side<'_>, b: Side<'_>) -> bool
         (Side::Term(v), Side::Number(z)) => is_num(v, z),
         (Side::Number(z), Side::Term(w)) => is_number(z, w),
         (Side::Number(y), Side::Number(z)) => y == z,
-    }
-}
-
-// ---- offsets
-#[tactic(auto, unfolding(crate::specs::Offsets::offset))]
-fn sum_offset<'a>(a: &'a ValueTerm, b: &'a ValueTerm) -> Option<Offset<'a>>
-    ensures value { option_map offset_by result ≡ offset (add a.now b.now) }
-    ensures small { IfSome result (λ o. unsigned_abs o.by ≤ 2 ^ 64) }
-{
-    match (&a.node, &b.node) {
-        (_, ValueNode::Num(c)) => Some(Offset {
-            base: a,
-            by: i128::from(*c),
-        }),
-        (ValueNode::Num(c), _) => Some(Offset {
-            base: b,
-            by: i128::from(*c),
-        }),
-        _ => None,
-    }
-}
-
-#[tactic(auto, unfolding(crate::specs::Offsets::offset))]
-fn less_offset<'a>(a: &'a ValueTerm, b: &'a ValueTerm) -> Option<Offset<'a>>
-    ensures value { option_map offset_by result ≡ offset (sub a.now b.now) }
-    ensures small { IfSome result (λ o. unsigned_abs o.by ≤ 2 ^ 64) }
-{
-    match &b.node {
-        ValueNode::Num(c) => Some(Offset {
-            base: a,
-            by: opposite(i128::from(*c)),
-        }),
-        _ => None,
-    }
-}
-
-// The term that a constant is added to, and the constant.
-#[tactic(auto, unfolding(crate::specs::Offsets::offset))]
-fn split_offset(v: &ValueTerm) -> Option<Offset<'_>>
-    ensures value { option_map offset_by result ≡ offset v.now }
-    ensures small { IfSome result (λ o. unsigned_abs o.by ≤ 2 ^ 64) }
-{
-    match &v.node {
-        ValueNode::Add(a, b) => sum_offset(a.get(), b.get()),
-        ValueNode::Sub(a, b) => less_offset(a.get(), b.get()),
-        _ => None,
     }
 }
 

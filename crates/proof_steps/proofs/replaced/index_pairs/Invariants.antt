@@ -2,7 +2,8 @@
 use Rattle.std.proofs.Common.{◌≡◌, [], drop}
 use Rattle.std.specs.Option.{option_map}
 use Rattle.rule_terms.specs.TermView.{terms_of}
-use Rattle.proof_steps.specs.Replaced.{index_arguments, left_by_pairs}
+use Rattle.law_clauses.specs.Arguments.{index_arguments}
+use Rattle.proof_steps.specs.Replaced.{left_by_pairs}
 use Rattle.proof_steps.proofs.replaced.index_pairs.Given as goal
 
 abbrev pub invariant-loop-i : goal.invariant-loop-i
