@@ -124,7 +124,7 @@ name_filled (k ∷ ks) [] x fits e = absurd (true≢false (sym fits))
 name_filled (k ∷ ks) (f ∷ fs) zero fits e = let p = name_filling k f (and_parts _ _ fits).0 e in (p.0, ap Some p.1)
 name_filled (k ∷ ks) (f ∷ fs) (suc x) fits e = name_filled ks fs x (and_parts (fits_kind k f) _ fits).1 e
 
-no_indices : (is : ValueTerms) → count is ≡ 0 → is ≡ no_terms
+pub no_indices : (is : ValueTerms) → count is ≡ 0 → is ≡ no_terms
 no_indices no_terms e = refl
 no_indices (term v vs) e = absurd (omega arith)
 

@@ -1,10 +1,15 @@
 pub mod ClauseLengths
 pub mod Clauses
+pub mod ClausesHaveForms
 pub mod ConditionClauses
+pub mod ConditionForms
 pub mod ConditionTable
 pub mod Each
+pub mod FormsAreClauses
+pub mod Itself
 pub mod Meant
 pub mod NumberClauses
+pub mod NumberForms
 pub mod NumberTable
 pub mod Numbered
 pub mod Pairs
@@ -13,4 +18,5 @@ pub mod ShortClauses
 pub mod TableTerms
 pub mod WalkedWrites
 pub mod WriteClauses
+pub mod WriteForms
 pub mod WriteTable

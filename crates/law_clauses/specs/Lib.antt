@@ -1,5 +1,6 @@
 pub mod ArgumentView
 pub mod Arguments
+pub mod ClauseForms
 pub mod ClauseLaws
 pub mod ConditionLaws
 pub mod Laws
