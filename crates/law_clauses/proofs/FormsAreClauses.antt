@@ -1,23 +1,23 @@
 -- Each form of a clause, with what its letters stand for, is a clause of its law.
-use Rattle.std.specs.Prelude.{◌≡◌, ℕ, pos, Bool, true, false, not, ◌==◌, ◌&&◌, ◌||◌, List, [], ◌∷◌, ◌++◌, map, Option, Some, refl}
+use Rattle.std.specs.Prelude.{◌≡◌, ℕ, pos, Bool, true, false, not, ◌==◌, ◌&&◌, ◌||◌, List, [], ◌∷◌, ◌++◌, map, Some, refl}
 use Rattle.std.proofs.Common.{sym, ap, ◌∙◌, true≢false}
 use Rattle.std.proofs.lemmas.Bool.{and_from, and_parts}
 use Rattle.toy_imp.specs.declared.param.Kind.TheVariants as kind
-use Rattle.rule_terms.specs.Term.{StoreTerm, left_store, right_store, put, run, ValueTerm, num, get, ev, add, sub, mul, no_terms, Place}
-use Rattle.rule_terms.specs.Order.{store_same, value_same}
-use Rattle.rule_terms.specs.declared.obligation.Atom.TheVariants.{SameName, SameStore, SameValue, AtMost, Ends, Holds}
+use Rattle.rule_terms.specs.Term.{StoreTerm, run, ValueTerm, no_terms, Place}
+use Rattle.rule_terms.specs.Order.{store_same}
+use Rattle.rule_terms.specs.declared.obligation.Atom.TheVariants.{SameName, SameStore, SameValue, Ends}
 use Rattle.rule_terms.specs.declared.obligation.Obligation.{Obligation}
 use Rattle.term_meaning.specs.Indices.{count}
 use Rattle.term_meaning.specs.Writes.{base_of}
 use Rattle.law_clauses.specs.Signed.{Signed, plus, minus}
-use Rattle.law_clauses.specs.Shapes.{is_run, is_num, is_get, is_ev, is_add, is_mul}
+use Rattle.law_clauses.specs.Shapes.{put_at, get_at, is_run}
 use Rattle.law_clauses.specs.Listed.{lists_keeps, lists_ignores, lists_commutes, lists_positive, lists_constant, lists_distinct}
 use Rattle.law_clauses.specs.WriteLaws.{conclusion, negated_conditions, unequal, read_back, law_1, law_2, index_pair, law_3, law_4, places_written, read_unlike, written_alike, law_5, law_6, law_7, law_8, law_9, law_10}
 use Rattle.law_clauses.specs.ConditionLaws.{law_11, law_12, law_13, law_14, law_15, law_16, law_17, law_18, law_19, law_20, law_21}
 use Rattle.law_clauses.specs.NumberLaws.{law_22, law_23, law_24}
 use Rattle.law_clauses.specs.Laws.{is_clause}
 use Rattle.law_clauses.specs.ClauseForms as form
-use Rattle.law_clauses.specs.ClauseForms.{Clause, law_of, written, read, literals, is_allowed, FormsAreClauses}
+use Rattle.law_clauses.specs.ClauseForms.{Clause, law_of, literals, is_allowed, FormsAreClauses}
 use Rattle.law_clauses.proofs.Same.{or_false}
 use Rattle.law_clauses.proofs.Itself.{number_itself, integer_itself, store_itself, value_itself, place_itself, all_itself, run_itself, num_itself, get_itself, ev_itself, add_itself, mul_itself}
 
@@ -46,8 +46,8 @@ module _ (s : StoreTerm) (p : Place) (v : ValueTerm) (q : Place) where
   holds_1 : (count q.indices == count p.indices) ≡ true → law_1 (literals (form.read_back s p v q)) ≡ true
   unfolding law_1 read_back
   holds_1 e =
-      let front = minus (Ends (written s p v)) ∷ minus (SameName q.name p.name) ∷ unequal q.indices p.indices in
-      let last = plus (SameValue (read q (written s p v)) v) in
+      let front = minus (Ends (put_at s p v)) ∷ minus (SameName q.name p.name) ∷ unequal q.indices p.indices in
+      let last = plus (SameValue (get_at q (put_at s p v)) v) in
       (λ j. read_back (conclusion_behind front last j) (conditions_before front last j))
       ∙ and_from _ _ e (and_from _ _ (value_itself v) (all_itself front))
 

@@ -1,5 +1,5 @@
 -- A term, an atom or a literal is the same as itself by the tests, and a term has its own shape.
-use Rattle.std.specs.Prelude.{◌≡◌, ℕ, ℤ, true, ◌==◌, ◌&&◌, List, [], ◌∷◌, refl}
+use Rattle.std.specs.Prelude.{◌≡◌, ℕ, ℤ, true, ◌==◌, List, [], ◌∷◌, refl}
 use Rattle.std.proofs.Common.{ap}
 use Rattle.std.specs.Ordering.{int_eq, is_eq}
 use Rattle.std.proofs.lemmas.Bool.{eq-eqb, and_from}

@@ -9,7 +9,7 @@ use Rattle.rule_terms.specs.declared.obligation.Obligation.{Obligation}
 use Rattle.law_clauses.specs.Signed.{Signed, signed_of, all_signed}
 use Rattle.law_clauses.specs.WriteLaws.{law_1, law_5}
 use Rattle.law_clauses.specs.Laws.{some_row, laws, is_clause}
-use Rattle.law_clauses.specs.ShortLaws.{laws_of_one, write_laws_of_two, condition_laws_of_two, number_laws_of_two, laws_of_three}
+use Rattle.law_clauses.specs.ShortLaws.{laws_of_one, write_laws_of_two, condition_laws_of_two, number_laws_of_two, some_law_of_two, laws_of_three}
 use Rattle.law_clauses.proofs.ClauseLengths.{law_2_two, law_3_two, law_4_one, law_6_one, law_7_two, law_8_two, law_9_two, law_10_three, law_11_two, law_12_two, law_13_three, law_14_two, law_15_three, law_16_two, law_17_three, law_18_one, law_19_two, law_20_three, law_21_one, law_22_three, law_23_two, law_24_two}
 use Rattle.law_clauses.proofs.Same.{or_false, or_more}
 
@@ -143,7 +143,7 @@ module _ (ob : Obligation) (k : ℕ) (not_1 : k ≢ 1) (not_5 : k ≢ 5) where
 
   pub two_short : (xs : List Literal) (x y : Literal) → 2 ≤ length xs → length xs < 3 → x ≡ get_or xs 0 x → y ≡ get_or xs 1 y
       → is_clause ob k (all_signed xs)
-      ≡ (some_row k (write_laws_of_two (signed_of x ∷ signed_of y ∷ [])) || (some_row k (condition_laws_of_two ob (signed_of x ∷ signed_of y ∷ [])) || some_row k (number_laws_of_two (signed_of x ∷ signed_of y ∷ []))))
+      ≡ some_law_of_two ob k (signed_of x ∷ signed_of y ∷ [])
   two_short xs x y low high p q =
       let clause = signed_of x ∷ signed_of y ∷ [] in
       ap (λ ys. is_clause ob k (all_signed ys)) (two_items xs x y low high p q)

@@ -2,12 +2,13 @@
 -- That these are the clauses of `Laws`, and all of them, are the laws `FormsAreClauses` and `ClausesHaveForms` at the end.
 use Rattle.std.specs.Prelude.{◌≡◌, ℕ, pos, Bool, true, not, ◌==◌, ◌&&◌, List, [], ◌∷◌, ◌++◌, map}
 use Rattle.toy_imp.specs.declared.param.Kind.TheVariants as kind
-use Rattle.rule_terms.specs.Term.{StoreTerm, left_store, right_store, put, run, ValueTerm, num, get, ev, add, sub, mul, no_terms, Place}
+use Rattle.rule_terms.specs.Term.{StoreTerm, left_store, right_store, run, ValueTerm, num, get, ev, add, sub, mul, no_terms, Place}
 use Rattle.rule_terms.specs.declared.obligation.Atom.TheVariants.{SameName, SameStore, SameValue, AtMost, Ends, Holds}
 use Rattle.rule_terms.specs.declared.obligation.Obligation.{Obligation}
 use Rattle.term_meaning.specs.Indices.{count}
 use Rattle.term_meaning.specs.Writes.{base_of}
 use Rattle.law_clauses.specs.Signed.{Signed, plus, minus}
+use Rattle.law_clauses.specs.Shapes.{put_at, get_at}
 use Rattle.law_clauses.specs.Listed.{lists_keeps, lists_ignores, lists_commutes, lists_positive, lists_constant, lists_distinct}
 use Rattle.law_clauses.specs.WriteLaws.{unequal, index_pair, places_written, read_unlike}
 use Rattle.law_clauses.specs.Laws.{is_clause}
@@ -88,12 +89,6 @@ law_of (one_times a b) = 23
 law_of (times_one a b) = 23
 law_of (less_itself a b) = 24
 
-abbrev pub written : StoreTerm → Place → ValueTerm → StoreTerm
-written s p v = put s p.name p.indices v
-
-abbrev pub read : Place → StoreTerm → ValueTerm
-read p s = get p.name p.indices s
-
 -- ---- the literals of a clause: the conditions negated, and the conclusion
 abbrev pub equal_values : ValueTerm → ValueTerm → Signed
 equal_values a b = plus (SameValue a b)
@@ -103,26 +98,26 @@ abbrev pub if_equal : ValueTerm → ValueTerm → Signed → List Signed
 if_equal a b x = minus (SameValue a b) ∷ x ∷ []
 
 abbrev pub literals : Clause → List Signed
-literals (read_back s p v q) = minus (Ends (written s p v)) ∷ minus (SameName q.name p.name) ∷ (unequal q.indices p.indices ++ equal_values (read q (written s p v)) v ∷ [])
-literals (past_name s p v q) = plus (SameName q.name p.name) ∷ equal_values (read q (written s p v)) (read q s) ∷ []
-literals (past_index s p v q a b) = plus (SameValue a b) ∷ equal_values (read q (written s p v)) (read q s) ∷ []
-literals (past_count s p v q) = equal_values (read q (written s p v)) (read q s) ∷ []
+literals (read_back s p v q) = minus (Ends (put_at s p v)) ∷ minus (SameName q.name p.name) ∷ (unequal q.indices p.indices ++ equal_values (get_at q (put_at s p v)) v ∷ [])
+literals (past_name s p v q) = plus (SameName q.name p.name) ∷ equal_values (get_at q (put_at s p v)) (get_at q s) ∷ []
+literals (past_index s p v q a b) = plus (SameValue a b) ∷ equal_values (get_at q (put_at s p v)) (get_at q s) ∷ []
+literals (past_count s p v q) = equal_values (get_at q (put_at s p v)) (get_at q s) ∷ []
 literals (written_alike a c) = minus (SameStore (base_of a) (base_of c)) ∷ (map (read_unlike a c) (places_written a c) ++ plus (SameStore a c) ∷ [])
 literals left_ends = plus (Ends left_store) ∷ []
 literals right_ends = plus (Ends right_store) ∷ []
-literals (write_ends s p v) = minus (Ends s) ∷ plus (Ends (written s p v)) ∷ []
-literals (written_ends s p v) = minus (Ends (written s p v)) ∷ plus (Ends s) ∷ []
+literals (write_ends s p v) = minus (Ends s) ∷ plus (Ends (put_at s p v)) ∷ []
+literals (written_ends s p v) = minus (Ends (put_at s p v)) ∷ plus (Ends s) ∷ []
 literals (run_starts k s) = minus (Ends (run k s)) ∷ plus (Ends s) ∷ []
 literals (neither_ends a c) = plus (Ends a) ∷ plus (Ends c) ∷ plus (SameStore a c) ∷ []
 literals (keeps_value k s e) = minus (Ends (run k s)) ∷ equal_values (ev e (run k s)) (ev e s) ∷ []
 literals (keeps_variable k s x) = minus (Ends (run k s)) ∷ equal_values (get x no_terms (run k s)) (get x no_terms s) ∷ []
 literals (keeps_test k s q) = minus (Ends (run k s)) ∷ minus (Holds q s) ∷ plus (Holds q (run k s)) ∷ []
 literals (keeps_test_back k s q) = minus (Ends (run k s)) ∷ minus (Holds q (run k s)) ∷ plus (Holds q s) ∷ []
-literals (value_ignores e x s p v) = minus (SameName p.name x) ∷ equal_values (ev e (written s p v)) (ev e s) ∷ []
-literals (test_ignores q x s p v) = minus (SameName p.name x) ∷ minus (Holds q s) ∷ plus (Holds q (written s p v)) ∷ []
-literals (test_ignores_back q x s p v) = minus (SameName p.name x) ∷ minus (Holds q (written s p v)) ∷ plus (Holds q s) ∷ []
-literals (run_ignores k x s p v) = minus (SameName p.name x) ∷ plus (SameStore (run k (written s p v)) (written (run k s) p v)) ∷ []
-literals (run_leaves k x s q) = minus (Ends (run k s)) ∷ minus (SameName q.name x) ∷ equal_values (read q (run k s)) (read q s) ∷ []
+literals (value_ignores e x s p v) = minus (SameName p.name x) ∷ equal_values (ev e (put_at s p v)) (ev e s) ∷ []
+literals (test_ignores q x s p v) = minus (SameName p.name x) ∷ minus (Holds q s) ∷ plus (Holds q (put_at s p v)) ∷ []
+literals (test_ignores_back q x s p v) = minus (SameName p.name x) ∷ minus (Holds q (put_at s p v)) ∷ plus (Holds q s) ∷ []
+literals (run_ignores k x s p v) = minus (SameName p.name x) ∷ plus (SameStore (run k (put_at s p v)) (put_at (run k s) p v)) ∷ []
+literals (run_leaves k x s q) = minus (Ends (run k s)) ∷ minus (SameName q.name x) ∷ equal_values (get_at q (run k s)) (get_at q s) ∷ []
 literals (runs_commute j k s) = plus (SameStore (run k (run j s)) (run j (run k s))) ∷ []
 literals (at_least_one e s) = minus (Ends s) ∷ plus (AtMost (num (pos 1)) (ev e s) (pos 0)) ∷ []
 literals (constant_value e a c) = minus (Ends a) ∷ minus (Ends c) ∷ equal_values (ev e a) (ev e c) ∷ []

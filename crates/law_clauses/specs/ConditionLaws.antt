@@ -24,10 +24,14 @@ law_12 ob (minus (Ends (run k s)) ∷ plus (SameValue (get x is t) w) ∷ []) =
     count is == 0 && (lists_keeps ob kind.Name k x && (is_run t k s && is_get w x is s))
 law_12 ob _ = false
 
+-- the one store term is s, and the other `run k s`
+abbrev pub across_run : ℕ → StoreTerm → StoreTerm → StoreTerm → Bool
+across_run k s a b = (store_same a s && is_run b k s) || (is_run a k s && store_same b s)
+
 -- 13, `keeps k q` of a test: if `run k s` ends and q holds at s: it holds at `run k s`; and with the two exchanged
 unfoldable pub law_13 : Obligation → List Signed → Bool
 law_13 ob (minus (Ends (run k s)) ∷ minus (Holds q a) ∷ plus (Holds r b) ∷ []) =
-    lists_keeps ob kind.Test k q && (r == q && ((store_same a s && is_run b k s) || (is_run a k s && store_same b s)))
+    lists_keeps ob kind.Test k q && (r == q && across_run k s a b)
 law_13 ob _ = false
 
 -- 14, `ignores e x` of an expression: if the name of p is x: `ev e t = ev e s`

@@ -7,6 +7,13 @@ use Rattle.rule_terms.specs.Order.{store_same, value_same, place_same}
 abbrev pub place : ℕ → ValueTerms → Place
 place x is = record { name = x; indices = is }
 
+-- a write and a read at a place
+abbrev pub put_at : StoreTerm → Place → ValueTerm → StoreTerm
+put_at s p v = put s p.name p.indices v
+
+abbrev pub get_at : Place → StoreTerm → ValueTerm
+get_at p s = get p.name p.indices s
+
 unfoldable pub is_run : StoreTerm → ℕ → StoreTerm → Bool
 is_run (run j t) k s = j == k && store_same t s
 is_run _ k s = false

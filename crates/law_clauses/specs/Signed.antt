@@ -17,6 +17,12 @@ with_sign false a = minus a
 abbrev pub signed_of : Literal → Signed
 signed_of x = with_sign x.sign x.atom
 
+abbrev pub two_signed : Literal → Literal → List Signed
+two_signed x y = signed_of x ∷ signed_of y ∷ []
+
+abbrev pub three_signed : Literal → Literal → Literal → List Signed
+three_signed x y z = signed_of x ∷ signed_of y ∷ signed_of z ∷ []
+
 abbrev pub all_signed : List Literal → List Signed
 all_signed xs = map signed_of xs
 

@@ -8,7 +8,7 @@ use Rattle.rule_terms.specs.declared.obligation.Atom.TheVariants.{SameName, Same
 use Rattle.term_meaning.specs.Indices.{count}
 use Rattle.term_meaning.specs.Writes.{base_of, written_in}
 use Rattle.law_clauses.specs.Signed.{Signed, plus, minus, all_same}
-use Rattle.law_clauses.specs.Shapes.{is_get}
+use Rattle.law_clauses.specs.Shapes.{place, get_at, is_get}
 
 abbrev pub conclusion : List Signed → Option Signed
 conclusion [] = None
@@ -25,10 +25,18 @@ unfoldable pub unequal : ValueTerms → ValueTerms → List Signed
 unequal (term a more) (term b bs) = minus (SameValue a b) ∷ unequal more bs
 unequal _ _ = []
 
+-- t does not end, or q is not the cell p
+abbrev pub not_read_back : StoreTerm → Place → Place → List Signed
+not_read_back t q p = minus (Ends t) ∷ minus (SameName q.name p.name) ∷ unequal q.indices p.indices
+
+-- q holds w in t
+abbrev pub says_read : Place → StoreTerm → ValueTerm → Signed
+says_read q t w = plus (SameValue (get_at q t) w)
+
 -- 1: q has as many indices as p. If t ends, the name of q is that of p, and each index of q is that of p: `get q t = v`
 unfoldable pub read_back : Option Signed → List Signed → Bool
 read_back (Some (plus (SameValue (get y js (put s x is v)) w))) conditions =
-    count js == count is && (value_same w v && all_same conditions (minus (Ends (put s x is v)) ∷ minus (SameName y x) ∷ unequal js is))
+    count js == count is && (value_same w v && all_same conditions (not_read_back (put s x is v) (place y js) (place x is)))
 read_back _ conditions = false
 
 unfoldable pub law_1 : List Signed → Bool
@@ -61,9 +69,17 @@ places_written a c = added_all place_same [] (written_in a ++ written_in c)
 abbrev pub read_unlike : StoreTerm → StoreTerm → Place → Signed
 read_unlike a c p = minus (SameValue (get p.name p.indices a) (get p.name p.indices c))
 
+-- .. read unlike at each of them
+abbrev pub all_read_unlike : StoreTerm → StoreTerm → List Signed
+all_read_unlike a c = map (read_unlike a c) (places_written a c)
+
+-- a and c are equal
+abbrev pub same_stores : StoreTerm → StoreTerm → Signed
+same_stores a c = plus (SameStore a c)
+
 -- 5: if a and c without their writes are equal, and are read alike at each place that is written in them: a = c
 unfoldable pub written_alike : Option Signed → List Signed → Bool
-written_alike (Some (plus (SameStore a c))) conditions = all_same conditions (minus (SameStore (base_of a) (base_of c)) ∷ map (read_unlike a c) (places_written a c))
+written_alike (Some (plus (SameStore a c))) conditions = all_same conditions (minus (SameStore (base_of a) (base_of c)) ∷ all_read_unlike a c)
 written_alike _ conditions = false
 
 unfoldable pub law_5 : List Signed → Bool

@@ -5,6 +5,7 @@ use Rattle.std.specs.List.{list_any}
 use Rattle.rule_terms.specs.Term.{StoreTerm, get, Place}
 use Rattle.rule_terms.specs.Order.{place_same}
 use Rattle.rule_terms.specs.declared.obligation.Atom.TheVariants.{SameValue}
+use Rattle.term_meaning.specs.Writes.{written_in}
 use Rattle.law_clauses.specs.Signed.{Signed, minus, signed_same}
 use Rattle.law_clauses.specs.Shapes.{place}
 use Rattle.law_clauses.specs.WriteLaws.{read_unlike}
@@ -29,7 +30,15 @@ used_along a c xs None ps = None
 used_along a c xs (Some n) [] = Some n
 used_along a c xs (Some n) (p ∷ ps) = used_along a c xs (used_at a c xs n p) ps
 
+-- .. behind all writes of a store term, where so many are used before
+abbrev pub used_behind : StoreTerm → StoreTerm → List Signed → ℕ → StoreTerm → Option ℕ
+used_behind a c xs n t = used_along a c xs (Some n) (written_in t)
+
 -- each literal is used
 unfoldable pub all_are_used : List Signed → Option ℕ → Bool
 all_are_used xs None = false
 all_are_used xs (Some n) = n == length xs
+
+-- .. behind the writes of the store term too
+abbrev pub uses_all : StoreTerm → StoreTerm → List Signed → ℕ → Bool
+uses_all a c xs n = all_are_used xs (used_behind a c xs n c)

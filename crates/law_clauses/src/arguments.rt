@@ -3,9 +3,10 @@
 
 ghost use Rattle.std.specs.Prelude.{◌≡◌, [], ◌∷◌, slice_get};
 ghost use Rattle.std.specs.Option.{option_map};
-ghost use Rattle.rule_terms.specs.Term.{put, get};
-ghost use Rattle.law_clauses.specs.Arguments.{of_value, index_arguments, store_arguments, value_arguments, store_top, value_top};
-ghost use Rattle.law_clauses.specs.ArgumentView.{argument_of};
+ghost use Rattle.law_clauses.specs.Shapes.{put_at, get_at};
+ghost use Rattle.law_clauses.specs.Arguments.{of_value, store_top, value_top};
+ghost use Rattle.law_clauses.specs.ArgumentView.{argument_of, nth_index};
+ghost use Rattle.law_clauses.specs.ArgumentView.{nth_store_argument, nth_value_argument};
 
 use crate::shapes::count;
 use rule_terms::{Place, StoreNode, StoreTerm, ValueNode, ValueTerm};
@@ -72,7 +73,7 @@ fn two_arguments<'a>(a: &'a ValueTerm, b: &'a ValueTerm, n: usize) -> Option<Arg
 // .. of the indices of a place, and of one more behind them.
 #[tactic(auto, using(crate::proofs::Numbered::index_inside, crate::proofs::Numbered::index_behind, crate::proofs::Numbered::index_past))]
 fn index_argument<'a>(p: &'a Place, last: Argument<'a>, n: usize) -> Option<Argument<'a>>
-    ensures { option_map argument_of result ≡ slice_get (index_arguments p.now.indices (argument_of last.entry ∷ [])) n }
+    ensures { option_map argument_of result ≡ nth_index p.now last.entry n }
 {
     let indices = p.indices.as_slice();
     if n < indices.len() {
@@ -91,7 +92,7 @@ fn write_argument<'a>(
     v: &'a ValueTerm,
     n: usize,
 ) -> Option<Argument<'a>>
-    ensures { option_map argument_of result ≡ slice_get (store_arguments (put s.now p.now.name p.now.indices v.now)) n }
+    ensures { option_map argument_of result ≡ nth_store_argument (put_at s.now p.now v.now) n }
 {
     if n == 0 {
         return Some(Argument::Store(s));
@@ -104,7 +105,7 @@ fn write_argument<'a>(
 
 #[tactic(auto, using(crate::proofs::Numbered::read_rest))]
 fn read_argument<'a>(p: &'a Place, s: &'a StoreTerm, n: usize) -> Option<Argument<'a>>
-    ensures { option_map argument_of result ≡ slice_get (value_arguments (get p.now.name p.now.indices s.now)) n }
+    ensures { option_map argument_of result ≡ nth_value_argument (get_at p.now s.now) n }
 {
     if n == 0 {
         return Some(Argument::Name(p.name));
@@ -112,10 +113,10 @@ fn read_argument<'a>(p: &'a Place, s: &'a StoreTerm, n: usize) -> Option<Argumen
     index_argument(p, Argument::Store(s), n - 1)
 }
 
-/// The argument of this number of a store term, from 0: of a write its store, name, indices and value, of a run its store. `None`
-/// exactly where it has fewer. It takes no memory.
+/// The argument of this number of a store term, from 0: of a write its store, name, indices and
+/// value, of a run its store. `None` exactly where it has fewer. It takes no memory.
 pub fn store_argument(t: &StoreTerm, n: usize) -> Option<Argument<'_>>
-    ensures { option_map argument_of result ≡ slice_get (store_arguments t.now) n }
+    ensures { option_map argument_of result ≡ nth_store_argument t.now n }
 {
     match &t.node {
         StoreNode::L => None,
@@ -125,10 +126,11 @@ pub fn store_argument(t: &StoreTerm, n: usize) -> Option<Argument<'_>>
     }
 }
 
-/// The argument of this number of a value term, from 0: of a read its name, indices and store, of an expression its store, of a sum,
-/// a difference and a product the two operands. `None` exactly where it has fewer. It takes no memory.
+/// The argument of this number of a value term, from 0: of a read its name, indices and store, of
+/// an expression its store, of a sum, a difference and a product the two operands. `None` exactly
+/// where it has fewer. It takes no memory.
 pub fn value_argument(v: &ValueTerm, n: usize) -> Option<Argument<'_>>
-    ensures { option_map argument_of result ≡ slice_get (value_arguments v.now) n }
+    ensures { option_map argument_of result ≡ nth_value_argument v.now n }
 {
     match &v.node {
         ValueNode::Num(_) => None,

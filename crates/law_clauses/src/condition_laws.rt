@@ -1,11 +1,11 @@
 //! Which literals are a clause of one of the laws that side conditions give.
 //! The clauses are those of `specs/ConditionLaws.antt`.
 
-ghost use Rattle.std.specs.Prelude.{◌≡◌, ◌&&◌, ◌||◌, [], ◌∷◌};
-ghost use Rattle.rule_terms.specs.Order.{store_same};
-ghost use Rattle.law_clauses.specs.Signed.{signed_of};
-ghost use Rattle.law_clauses.specs.Shapes.{is_run};
-ghost use Rattle.law_clauses.specs.ConditionLaws.{law_11, law_12, law_13, law_14, written_at, law_15, law_16, law_17, law_18, law_19, law_20, law_21};
+ghost use Rattle.std.specs.Prelude.{◌≡◌, [], ◌∷◌};
+ghost use Rattle.law_clauses.specs.Signed.{signed_of, two_signed, three_signed};
+ghost use Rattle.law_clauses.specs.ConditionLaws.{law_11, law_12, across_run, law_13, law_14};
+ghost use Rattle.law_clauses.specs.ConditionLaws.{written_at, law_15, law_16, law_17};
+ghost use Rattle.law_clauses.specs.ConditionLaws.{law_18, law_19, law_20, law_21};
 
 use crate::listed::{
     lists_commutes, lists_constant, lists_distinct, lists_ignores, lists_keeps, lists_positive,
@@ -17,7 +17,7 @@ use toy_imp::Kind;
 // A run that keeps an expression.
 #[tactic(auto, unfolding(crate::specs::ConditionLaws::law_11))]
 pub fn keeps_value(ob: &Obligation, x: &Literal, y: &Literal) -> bool
-    ensures { result ≡ law_11 ob.now (signed_of x.now ∷ signed_of y.now ∷ []) }
+    ensures { result ≡ law_11 ob.now (two_signed x.now y.now) }
 {
     match (x.sign, &x.atom, y.sign, &y.atom) {
         (false, Atom::Ends(r), true, Atom::SameValue(v, w)) => match (&r.node, &v.node) {
@@ -35,7 +35,7 @@ pub fn keeps_value(ob: &Obligation, x: &Literal, y: &Literal) -> bool
 // A run that keeps a variable.
 #[tactic(auto, unfolding(crate::specs::ConditionLaws::law_12))]
 pub fn keeps_variable(ob: &Obligation, x: &Literal, y: &Literal) -> bool
-    ensures { result ≡ law_12 ob.now (signed_of x.now ∷ signed_of y.now ∷ []) }
+    ensures { result ≡ law_12 ob.now (two_signed x.now y.now) }
 {
     match (x.sign, &x.atom, y.sign, &y.atom) {
         (false, Atom::Ends(r), true, Atom::SameValue(v, w)) => match (&r.node, &v.node) {
@@ -52,7 +52,7 @@ pub fn keeps_variable(ob: &Obligation, x: &Literal, y: &Literal) -> bool
 }
 
 fn across_run(k: u32, s: &StoreTerm, a: &StoreTerm, b: &StoreTerm) -> bool
-    ensures { result ≡ (store_same a.now s.now && is_run b.now k s.now) || (is_run a.now k s.now && store_same b.now s.now) }
+    ensures { result ≡ across_run k s.now a.now b.now }
 {
     (a.same(s) && is_run(b, k, s)) || (is_run(a, k, s) && b.same(s))
 }
@@ -60,7 +60,7 @@ fn across_run(k: u32, s: &StoreTerm, a: &StoreTerm, b: &StoreTerm) -> bool
 // A run that keeps a test.
 #[tactic(auto, unfolding(crate::specs::ConditionLaws::law_13))]
 pub fn keeps_test(ob: &Obligation, x: &Literal, y: &Literal, z: &Literal) -> bool
-    ensures { result ≡ law_13 ob.now (signed_of x.now ∷ signed_of y.now ∷ signed_of z.now ∷ []) }
+    ensures { result ≡ law_13 ob.now (three_signed x.now y.now z.now) }
 {
     match (x.sign, &x.atom, y.sign, &y.atom, z.sign, &z.atom) {
         (false, Atom::Ends(r), false, Atom::Holds(q, a), true, Atom::Holds(p, b)) => match &r.node {
@@ -76,7 +76,7 @@ pub fn keeps_test(ob: &Obligation, x: &Literal, y: &Literal, z: &Literal) -> boo
 // An expression that ignores a write.
 #[tactic(auto, unfolding(crate::specs::ConditionLaws::law_14))]
 pub fn value_ignores(ob: &Obligation, x: &Literal, y: &Literal) -> bool
-    ensures { result ≡ law_14 ob.now (signed_of x.now ∷ signed_of y.now ∷ []) }
+    ensures { result ≡ law_14 ob.now (two_signed x.now y.now) }
 {
     match (x.sign, &x.atom, y.sign, &y.atom) {
         (false, Atom::SameName(n, m), true, Atom::SameValue(v, w)) => match &v.node {
@@ -104,7 +104,7 @@ fn written_at(n: u32, s: &StoreTerm, t: &StoreTerm) -> bool
 // A test that ignores a write.
 #[tactic(auto, unfolding(crate::specs::ConditionLaws::law_15))]
 pub fn test_ignores(ob: &Obligation, x: &Literal, y: &Literal, z: &Literal) -> bool
-    ensures { result ≡ law_15 ob.now (signed_of x.now ∷ signed_of y.now ∷ signed_of z.now ∷ []) }
+    ensures { result ≡ law_15 ob.now (three_signed x.now y.now z.now) }
 {
     match (x.sign, &x.atom, y.sign, &y.atom, z.sign, &z.atom) {
         (false, Atom::SameName(n, m), false, Atom::Holds(q, a), true, Atom::Holds(p, b)) => {
@@ -119,7 +119,7 @@ pub fn test_ignores(ob: &Obligation, x: &Literal, y: &Literal, z: &Literal) -> b
 // A run that ignores a write.
 #[tactic(auto, unfolding(crate::specs::ConditionLaws::law_16))]
 pub fn run_ignores(ob: &Obligation, x: &Literal, y: &Literal) -> bool
-    ensures { result ≡ law_16 ob.now (signed_of x.now ∷ signed_of y.now ∷ []) }
+    ensures { result ≡ law_16 ob.now (two_signed x.now y.now) }
 {
     match (x.sign, &x.atom, y.sign, &y.atom) {
         (false, Atom::SameName(n, m), true, Atom::SameStore(a, b)) => match (&a.node, &b.node) {
@@ -142,7 +142,7 @@ pub fn run_ignores(ob: &Obligation, x: &Literal, y: &Literal) -> bool
 // A run that ignores a cell.
 #[tactic(auto, unfolding(crate::specs::ConditionLaws::law_17))]
 pub fn run_leaves(ob: &Obligation, x: &Literal, y: &Literal, z: &Literal) -> bool
-    ensures { result ≡ law_17 ob.now (signed_of x.now ∷ signed_of y.now ∷ signed_of z.now ∷ []) }
+    ensures { result ≡ law_17 ob.now (three_signed x.now y.now z.now) }
 {
     match (x.sign, &x.atom, y.sign, &y.atom, z.sign, &z.atom) {
         (false, Atom::Ends(r), false, Atom::SameName(n, m), true, Atom::SameValue(v, w)) => {
@@ -182,7 +182,7 @@ pub fn runs_commute(ob: &Obligation, x: &Literal) -> bool
 // A positive expression.
 #[tactic(auto, unfolding(crate::specs::ConditionLaws::law_19))]
 pub fn is_at_least_one(ob: &Obligation, x: &Literal, y: &Literal) -> bool
-    ensures { result ≡ law_19 ob.now (signed_of x.now ∷ signed_of y.now ∷ []) }
+    ensures { result ≡ law_19 ob.now (two_signed x.now y.now) }
 {
     match (x.sign, &x.atom, y.sign, &y.atom) {
         (false, Atom::Ends(s), true, Atom::AtMost(a, v, c)) => match &v.node {
@@ -198,7 +198,7 @@ pub fn is_at_least_one(ob: &Obligation, x: &Literal, y: &Literal) -> bool
 // A constant expression.
 #[tactic(auto, unfolding(crate::specs::ConditionLaws::law_20))]
 pub fn is_constant_value(ob: &Obligation, x: &Literal, y: &Literal, z: &Literal) -> bool
-    ensures { result ≡ law_20 ob.now (signed_of x.now ∷ signed_of y.now ∷ signed_of z.now ∷ []) }
+    ensures { result ≡ law_20 ob.now (three_signed x.now y.now z.now) }
 {
     match (x.sign, &x.atom, y.sign, &y.atom, z.sign, &z.atom) {
         (false, Atom::Ends(a), false, Atom::Ends(c), true, Atom::SameValue(v, w)) => match &v.node {

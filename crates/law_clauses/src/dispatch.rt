@@ -1,10 +1,13 @@
 //! Whether literals are a clause of a law, by the law's number.
-//! `specs/Laws.antt` has the table of all laws, `specs/ShortLaws.antt` those of one, two and three literals.
+//! `specs/Laws.antt` has the table of all laws, `specs/ShortLaws.antt` those of one, two and three
+//! literals.
 
 ghost use Rattle.std.specs.Prelude.{◌≡◌, ◌≢◌, ◌||◌, [], ◌∷◌};
-ghost use Rattle.law_clauses.specs.Signed.{signed_of, all_signed};
+ghost use Rattle.law_clauses.specs.Signed.{signed_of, two_signed, three_signed, all_signed};
 ghost use Rattle.law_clauses.specs.Laws.{some_row, is_clause};
-ghost use Rattle.law_clauses.specs.ShortLaws.{laws_of_one, write_laws_of_two, condition_laws_of_two, number_laws_of_two, laws_of_three};
+ghost use Rattle.law_clauses.specs.ShortLaws.{laws_of_one, write_laws_of_two};
+ghost use Rattle.law_clauses.specs.ShortLaws.{condition_laws_of_two, number_laws_of_two};
+ghost use Rattle.law_clauses.specs.ShortLaws.{some_law_of_two, laws_of_three};
 
 use crate::condition_laws::{
     is_at_least_one, is_constant_value, keeps_test, keeps_value, keeps_variable, names_differ,
@@ -35,7 +38,7 @@ fn is_clause_of_one(ob: &Obligation, k: u32, x: &Literal) -> bool
 // Of reads and writes.
 #[tactic(auto, using(crate::proofs::Same::or_false))]
 fn is_write_clause(k: u32, x: &Literal, y: &Literal) -> bool
-    ensures { result ≡ some_row k (write_laws_of_two (signed_of x.now ∷ signed_of y.now ∷ [])) }
+    ensures { result ≡ some_row k (write_laws_of_two (two_signed x.now y.now)) }
 {
     match k {
         2 => reads_past_name(x, y),
@@ -50,7 +53,7 @@ fn is_write_clause(k: u32, x: &Literal, y: &Literal) -> bool
 // Of side conditions.
 #[tactic(auto, using(crate::proofs::Same::or_false))]
 fn is_condition_clause(ob: &Obligation, k: u32, x: &Literal, y: &Literal) -> bool
-    ensures { result ≡ some_row k (condition_laws_of_two ob.now (signed_of x.now ∷ signed_of y.now ∷ [])) }
+    ensures { result ≡ some_row k (condition_laws_of_two ob.now (two_signed x.now y.now)) }
 {
     match k {
         11 => keeps_value(ob, x, y),
@@ -65,7 +68,7 @@ fn is_condition_clause(ob: &Obligation, k: u32, x: &Literal, y: &Literal) -> boo
 // Of sums, products and differences.
 #[tactic(auto, using(crate::proofs::Same::or_false))]
 fn is_number_clause(k: u32, x: &Literal, y: &Literal) -> bool
-    ensures { result ≡ some_row k (number_laws_of_two (signed_of x.now ∷ signed_of y.now ∷ [])) }
+    ensures { result ≡ some_row k (number_laws_of_two (two_signed x.now y.now)) }
 {
     match k {
         23 => has_unit(x, y),
@@ -75,14 +78,14 @@ fn is_number_clause(k: u32, x: &Literal, y: &Literal) -> bool
 }
 
 fn is_clause_of_two(ob: &Obligation, k: u32, x: &Literal, y: &Literal) -> bool
-    ensures { let clause = signed_of x.now ∷ signed_of y.now ∷ [] in result ≡ (some_row k (write_laws_of_two clause) || (some_row k (condition_laws_of_two ob.now clause) || some_row k (number_laws_of_two clause))) }
+    ensures { result ≡ some_law_of_two ob.now k (two_signed x.now y.now) }
 {
     is_write_clause(k, x, y) || is_condition_clause(ob, k, x, y) || is_number_clause(k, x, y)
 }
 
 #[tactic(auto, using(crate::proofs::Same::or_false))]
 fn is_clause_of_three(ob: &Obligation, k: u32, x: &Literal, y: &Literal, z: &Literal) -> bool
-    ensures { result ≡ some_row k (laws_of_three ob.now (signed_of x.now ∷ signed_of y.now ∷ signed_of z.now ∷ [])) }
+    ensures { result ≡ some_row k (laws_of_three ob.now (three_signed x.now y.now z.now)) }
 {
     match k {
         10 => neither_ends(x, y, z),
@@ -110,8 +113,9 @@ fn is_short_clause(ob: &Obligation, k: u32, clause: &[Literal]) -> bool
     }
 }
 
-/// Whether the literals are a clause of the law of this number, under the side conditions and the kinds of parameters of the obligation.
-/// Exact, and it takes no memory; a number beyond the table has no clauses.
+/// Whether the literals are a clause of the law of this number, under the side conditions and the
+/// kinds of parameters of the obligation. Exact, and it takes no memory; a number beyond the table
+/// has no clauses.
 #[tactic(auto, using(crate::proofs::ShortClauses::clause_1, crate::proofs::ShortClauses::clause_5))]
 pub fn is_clause(ob: &Obligation, k: u32, clause: &[Literal]) -> bool
     ensures { result ≡ is_clause ob.now k (all_signed clause.now) }

@@ -4,7 +4,8 @@
 ghost use Rattle.law_clauses.specs.ClauseLaws.{ClausesAreTrue};
 ghost use Rattle.law_clauses.specs.ClauseForms.{FormsAreClauses, ClausesHaveForms};
 
-/// Each clause of a law has a true literal, under every faithful table that covers it: were all of them false, there is the answer.
+/// Each clause of a law has a true literal, under every faithful table that covers it: were all of
+/// them false, there is the answer.
 pub fn clauses_are_true()
     ensures { ClausesAreTrue }
 {}

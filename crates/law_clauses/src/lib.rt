@@ -1,6 +1,6 @@
-//! The clauses of the 24 laws: which lists of literals are clauses of a law, in code, and that each clause has a true literal.
-//! `specs/Laws.antt` has the table of the laws, which are in `WriteLaws.antt`, `ConditionLaws.antt` and `NumberLaws.antt` beside it;
-//! `specs/ClauseLaws.antt` says what their clauses give.
+//! The clauses of the 24 laws: which lists of literals are clauses of a law, in code, and that each
+//! clause has a true literal. `specs/Laws.antt` has the table of the laws, `ClauseForms.antt` their
+//! clauses by what the letters stand for, `ClauseLaws.antt` what they give.
 #![tactic(auto)]
 
 mod arguments;

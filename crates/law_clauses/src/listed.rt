@@ -2,8 +2,10 @@
 //! `specs/Listed.antt` says what is looked for.
 
 ghost use Rattle.std.specs.Prelude.{◌≡◌};
-ghost use Rattle.law_clauses.specs.Listed.{is_keeps, is_positive, is_constant, is_distinct, keeps, positive, constant, distinct, has_kind};
-ghost use Rattle.law_clauses.specs.Listed.{lists_keeps, lists_ignores, lists_commutes, lists_positive, lists_constant, lists_distinct};
+ghost use Rattle.law_clauses.specs.Listed.{is_keeps, is_positive, is_constant, is_distinct};
+ghost use Rattle.law_clauses.specs.Listed.{keeps, positive, constant, distinct, has_kind};
+ghost use Rattle.law_clauses.specs.Listed.{lists_keeps, lists_ignores, lists_commutes};
+ghost use Rattle.law_clauses.specs.Listed.{lists_positive, lists_constant, lists_distinct};
 
 use rule_terms::{Obligation, commute, ignores};
 use toy_imp::{Condition, Kind};

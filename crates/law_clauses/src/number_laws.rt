@@ -1,11 +1,10 @@
 //! Which literals are a clause of one of the laws of sums, products and differences.
 //! The clauses are those of `specs/NumberLaws.antt`.
 
-ghost use Rattle.std.specs.Prelude.{◌≡◌, ◌&&◌, ◌||◌, pos, [], ◌∷◌};
-ghost use Rattle.rule_terms.specs.Order.{value_same};
-ghost use Rattle.law_clauses.specs.Signed.{signed_of};
-ghost use Rattle.law_clauses.specs.Shapes.{is_num};
-ghost use Rattle.law_clauses.specs.NumberLaws.{law_22, law_23, law_24};
+ghost use Rattle.std.specs.Prelude.{◌≡◌};
+ghost use Rattle.law_clauses.specs.Signed.{two_signed, three_signed};
+ghost use Rattle.law_clauses.specs.NumberLaws.{law_22, adds_nothing, multiplies_by_unit, law_23};
+ghost use Rattle.law_clauses.specs.NumberLaws.{law_24};
 
 use crate::shapes::{is_add, is_mul, is_num};
 use rule_terms::{Atom, Literal, ValueNode, ValueTerm};
@@ -13,7 +12,7 @@ use rule_terms::{Atom, Literal, ValueNode, ValueTerm};
 // Operands exchanged.
 #[tactic(auto, unfolding(crate::specs::NumberLaws::law_22))]
 pub fn exchanges_operands(x: &Literal, y: &Literal, z: &Literal) -> bool
-    ensures { result ≡ law_22 (signed_of x.now ∷ signed_of y.now ∷ signed_of z.now ∷ []) }
+    ensures { result ≡ law_22 (three_signed x.now y.now z.now) }
 {
     match (x.sign, &x.atom, y.sign, &y.atom, z.sign, &z.atom) {
         (false, Atom::SameValue(a, d), false, Atom::SameValue(b, c), true, Atom::SameValue(v, w)) =>
@@ -29,7 +28,7 @@ pub fn exchanges_operands(x: &Literal, y: &Literal, z: &Literal) -> bool
 }
 
 fn adds_nothing(u: &ValueTerm, z: &ValueTerm, a: &ValueTerm, b: &ValueTerm, w: &ValueTerm) -> bool
-    ensures { result ≡ is_num z.now (pos 0) && ((value_same u.now b.now && value_same w.now a.now) || (value_same u.now a.now && value_same w.now b.now)) }
+    ensures { result ≡ adds_nothing u.now z.now a.now b.now w.now }
 {
     is_num(z, 0) && ((u.same(b) && w.same(a)) || (u.same(a) && w.same(b)))
 }
@@ -41,7 +40,7 @@ fn multiplies_by_unit(
     b: &ValueTerm,
     w: &ValueTerm,
 ) -> bool
-    ensures { result ≡ (is_num z.now (pos 0) && ((value_same u.now a.now || value_same u.now b.now) && is_num w.now (pos 0))) || (is_num z.now (pos 1) && ((value_same u.now a.now && value_same w.now b.now) || (value_same u.now b.now && value_same w.now a.now))) }
+    ensures { result ≡ multiplies_by_unit u.now z.now a.now b.now w.now }
 {
     (is_num(z, 0) && (u.same(a) || u.same(b)) && is_num(w, 0))
         || (is_num(z, 1) && ((u.same(a) && w.same(b)) || (u.same(b) && w.same(a))))
@@ -50,7 +49,7 @@ fn multiplies_by_unit(
 // An operand that is 0, or a factor that is 1.
 #[tactic(auto, unfolding(crate::specs::NumberLaws::law_23))]
 pub fn has_unit(x: &Literal, y: &Literal) -> bool
-    ensures { result ≡ law_23 (signed_of x.now ∷ signed_of y.now ∷ []) }
+    ensures { result ≡ law_23 (two_signed x.now y.now) }
 {
     match (x.sign, &x.atom, y.sign, &y.atom) {
         (false, Atom::SameValue(u, z), true, Atom::SameValue(v, w)) => match &v.node {
@@ -65,7 +64,7 @@ pub fn has_unit(x: &Literal, y: &Literal) -> bool
 // The difference of equals.
 #[tactic(auto, unfolding(crate::specs::NumberLaws::law_24))]
 pub fn takes_itself(x: &Literal, y: &Literal) -> bool
-    ensures { result ≡ law_24 (signed_of x.now ∷ signed_of y.now ∷ []) }
+    ensures { result ≡ law_24 (two_signed x.now y.now) }
 {
     match (x.sign, &x.atom, y.sign, &y.atom) {
         (false, Atom::SameValue(a, b), true, Atom::SameValue(v, w)) => match &v.node {

@@ -54,8 +54,8 @@ fn less_offset<'a>(a: &'a ValueTerm, b: &'a ValueTerm) -> Option<Offset<'a>>
     }
 }
 
-/// The term that a constant is added to, and the constant: of a sum with a constant on either side, the right one first, and of a
-/// difference with a constant on the right.
+/// The term that a constant is added to, and the constant: of a sum with a constant on either side,
+/// the right one first, and of a difference with a constant on the right.
 #[tactic(auto, unfolding(crate::specs::Offsets::offset))]
 pub fn split_offset(v: &ValueTerm) -> Option<Offset<'_>>
     ensures value { option_map offset_by result ≡ offset v.now }

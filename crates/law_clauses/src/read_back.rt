@@ -1,13 +1,13 @@
-//! Which literals are a clause of the law that a read after a write to its cell gives what is written.
+//! Which literals are a clause of the law that a read after a write to its cell gives what is
+//! written.
 //! The clauses are those of `specs/WriteLaws.antt`.
 
-ghost use Rattle.std.specs.Prelude.{◌≡◌, length, Some, ◌∷◌};
-ghost use Rattle.rule_terms.specs.Term.{get};
+ghost use Rattle.std.specs.Prelude.{◌≡◌, length, Some};
 ghost use Rattle.rule_terms.specs.TermView.{terms_of};
 ghost use Rattle.rule_terms.specs.declared.obligation.Atom.TheVariants.{SameName, SameValue, Ends};
 ghost use Rattle.term_meaning.specs.Indices.{count};
-ghost use Rattle.law_clauses.specs.Signed.{plus, minus, signed_of, all_signed, signed_same, all_same};
-ghost use Rattle.law_clauses.specs.WriteLaws.{unequal, read_back, law_1};
+ghost use Rattle.law_clauses.specs.Signed.{minus, signed_of, all_signed, signed_same, all_same};
+ghost use Rattle.law_clauses.specs.WriteLaws.{unequal, not_read_back, says_read, read_back, law_1};
 
 use crate::shapes::count;
 use rule_terms::{Atom, Literal, Place, StoreNode, StoreTerm, ValueNode, ValueTerm};
@@ -63,7 +63,7 @@ fn deny_indices(xs: &[Literal], js: &[ValueTerm], is: &[ValueTerm]) -> bool
 #[tactic(auto, using(crate::proofs::Pairs::count_terms), unfolding(crate::specs::Signed::all_same))]
 fn are_conditions(conditions: &[Literal], t: &StoreTerm, q: &Place, p: &Place) -> bool
     requires { count q.now.indices ≡ count p.now.indices }
-    ensures { result ≡ all_same (all_signed conditions.now) (minus (Ends t.now) ∷ minus (SameName q.now.name p.now.name) ∷ unequal q.now.indices p.now.indices) }
+    ensures { result ≡ all_same (all_signed conditions.now) (not_read_back t.now q.now p.now) }
 {
     let Some((first, rest)) = conditions.split_first() else {
         return false;
@@ -78,7 +78,7 @@ fn are_conditions(conditions: &[Literal], t: &StoreTerm, q: &Place, p: &Place) -
 
 #[tactic(auto, unfolding(crate::specs::WriteLaws::read_back))]
 fn is_read_back(conditions: &[Literal], q: &Place, t: &StoreTerm, w: &ValueTerm) -> bool
-    ensures { result ≡ read_back (Some (plus (SameValue (get q.now.name q.now.indices t.now) w.now))) (all_signed conditions.now) }
+    ensures { result ≡ read_back (Some (says_read q.now t.now w.now)) (all_signed conditions.now) }
 {
     match &t.node {
         StoreNode::Put(_, p, v) => {

@@ -3,7 +3,8 @@
 
 ghost use Rattle.std.specs.Prelude.{◌≡◌};
 ghost use Rattle.term_meaning.specs.Indices.{count};
-ghost use Rattle.law_clauses.specs.Shapes.{is_run, is_put, is_num, is_get, is_ev, is_add, is_sub, is_mul};
+ghost use Rattle.law_clauses.specs.Shapes.{is_run, is_put, is_num, is_get, is_ev};
+ghost use Rattle.law_clauses.specs.Shapes.{is_add, is_sub, is_mul};
 
 use rule_terms::{Place, StoreNode, StoreTerm, ValueNode, ValueTerm};
 

@@ -3,8 +3,9 @@
 
 ghost use Rattle.std.specs.Prelude.{◌≡◌, [], ◌∷◌};
 ghost use Rattle.rule_terms.specs.TermView.{terms_of};
-ghost use Rattle.law_clauses.specs.Signed.{signed_of};
-ghost use Rattle.law_clauses.specs.WriteLaws.{law_2, index_pair, law_3, law_4, law_6, law_7, law_8, law_9, law_10};
+ghost use Rattle.law_clauses.specs.Signed.{signed_of, two_signed, three_signed};
+ghost use Rattle.law_clauses.specs.WriteLaws.{law_2, index_pair, law_3, law_4, law_6, law_7, law_8};
+ghost use Rattle.law_clauses.specs.WriteLaws.{law_9, law_10};
 
 use crate::shapes::{count, is_get};
 use rule_terms::{Atom, Literal, StoreNode, ValueNode, ValueTerm};
@@ -12,7 +13,7 @@ use rule_terms::{Atom, Literal, StoreNode, ValueNode, ValueTerm};
 // A read past a write to another name.
 #[tactic(auto, unfolding(crate::specs::WriteLaws::law_2))]
 pub fn reads_past_name(x: &Literal, y: &Literal) -> bool
-    ensures { result ≡ law_2 (signed_of x.now ∷ signed_of y.now ∷ []) }
+    ensures { result ≡ law_2 (two_signed x.now y.now) }
 {
     match (x.sign, &x.atom, y.sign, &y.atom) {
         (true, Atom::SameName(n, m), true, Atom::SameValue(v, w)) => match &v.node {
@@ -45,7 +46,7 @@ fn index_pair(a: &ValueTerm, b: &ValueTerm, js: &[ValueTerm], is: &[ValueTerm]) 
 // A read past a write to another index.
 #[tactic(auto, unfolding(crate::specs::WriteLaws::law_3))]
 pub fn reads_past_index(x: &Literal, y: &Literal) -> bool
-    ensures { result ≡ law_3 (signed_of x.now ∷ signed_of y.now ∷ []) }
+    ensures { result ≡ law_3 (two_signed x.now y.now) }
 {
     match (x.sign, &x.atom, y.sign, &y.atom) {
         (true, Atom::SameValue(a, b), true, Atom::SameValue(v, w)) => match &v.node {
@@ -98,7 +99,7 @@ pub fn side_ends(x: &Literal) -> bool
 // A write into what ends.
 #[tactic(auto, unfolding(crate::specs::WriteLaws::law_7))]
 pub fn write_ends(x: &Literal, y: &Literal) -> bool
-    ensures { result ≡ law_7 (signed_of x.now ∷ signed_of y.now ∷ []) }
+    ensures { result ≡ law_7 (two_signed x.now y.now) }
 {
     match (x.sign, &x.atom, y.sign, &y.atom) {
         (false, Atom::Ends(s), true, Atom::Ends(t)) => match &t.node {
@@ -112,7 +113,7 @@ pub fn write_ends(x: &Literal, y: &Literal) -> bool
 // What is written into.
 #[tactic(auto, unfolding(crate::specs::WriteLaws::law_8))]
 pub fn written_ends(x: &Literal, y: &Literal) -> bool
-    ensures { result ≡ law_8 (signed_of x.now ∷ signed_of y.now ∷ []) }
+    ensures { result ≡ law_8 (two_signed x.now y.now) }
 {
     match (x.sign, &x.atom, y.sign, &y.atom) {
         (false, Atom::Ends(t), true, Atom::Ends(s)) => match &t.node {
@@ -126,7 +127,7 @@ pub fn written_ends(x: &Literal, y: &Literal) -> bool
 // What a run that ends starts from.
 #[tactic(auto, unfolding(crate::specs::WriteLaws::law_9))]
 pub fn run_starts(x: &Literal, y: &Literal) -> bool
-    ensures { result ≡ law_9 (signed_of x.now ∷ signed_of y.now ∷ []) }
+    ensures { result ≡ law_9 (two_signed x.now y.now) }
 {
     match (x.sign, &x.atom, y.sign, &y.atom) {
         (false, Atom::Ends(t), true, Atom::Ends(s)) => match &t.node {
@@ -140,7 +141,7 @@ pub fn run_starts(x: &Literal, y: &Literal) -> bool
 // Two stores that do not end.
 #[tactic(auto, unfolding(crate::specs::WriteLaws::law_10))]
 pub fn neither_ends(x: &Literal, y: &Literal, z: &Literal) -> bool
-    ensures { result ≡ law_10 (signed_of x.now ∷ signed_of y.now ∷ signed_of z.now ∷ []) }
+    ensures { result ≡ law_10 (three_signed x.now y.now z.now) }
 {
     match (x.sign, &x.atom, y.sign, &y.atom, z.sign, &z.atom) {
         (true, Atom::Ends(a), true, Atom::Ends(c), true, Atom::SameStore(b, d)) => {

@@ -1,13 +1,15 @@
 //! Which literals are a clause of the law that stores written alike are equal.
-//! The clauses are those of `specs/WriteLaws.antt`; the walk that finds them is that of `specs/WrittenAlike.antt`.
+//! The clauses are those of `specs/WriteLaws.antt`; the walk that finds them is that of
+//! `specs/WrittenAlike.antt`.
 
-ghost use Rattle.std.specs.Prelude.{◌≡◌, ◌≤◌, length, map, Some, MatchOption};
+ghost use Rattle.std.specs.Prelude.{◌≡◌, ◌≤◌, length, Some, MatchOption};
 ghost use Rattle.std.specs.List.{list_any};
 ghost use Rattle.rule_terms.specs.declared.obligation.Atom.TheVariants.{SameStore};
-ghost use Rattle.term_meaning.specs.Writes.{base_of, written_in};
-ghost use Rattle.law_clauses.specs.Signed.{plus, minus, signed_of, all_signed, signed_same, all_same};
-ghost use Rattle.law_clauses.specs.WriteLaws.{places_written, read_unlike, written_alike, law_5};
-ghost use Rattle.law_clauses.specs.WrittenAlike.{reads_at, used_at, used_along, all_are_used};
+ghost use Rattle.term_meaning.specs.Writes.{base_of};
+ghost use Rattle.law_clauses.specs.Signed.{minus, signed_of, all_signed, signed_same, all_same};
+ghost use Rattle.law_clauses.specs.WriteLaws.{read_unlike, all_read_unlike, same_stores};
+ghost use Rattle.law_clauses.specs.WriteLaws.{written_alike, law_5};
+ghost use Rattle.law_clauses.specs.WrittenAlike.{reads_at, used_at, used_behind, uses_all};
 
 use crate::shapes::is_get;
 use rule_terms::{Atom, Literal, Place, StoreNode, StoreTerm, ValueNode};
@@ -70,8 +72,9 @@ fn denies_stores(x: &Literal, s: &StoreTerm, t: &StoreTerm) -> bool
     }
 }
 
-// How many literals are used behind a write at the place, `n` being used before it. A place is looked for among these, one by one, so
-// the walk over two stores is quadratic in their writes; nothing is built, and a store has some thousand writes at most.
+// How many literals are used behind a write at the place, `n` being used before it. A place is
+// looked for among these, one by one, so the walk over two stores is quadratic in their writes;
+// nothing is built, and a store has some thousand writes at most.
 #[tactic(auto, using(crate::proofs::WalkedWrites::used_at_met, crate::proofs::WalkedWrites::used_at_one_more, crate::proofs::WalkedWrites::used_at_other, crate::proofs::WalkedWrites::used_at_end))]
 fn used_at(xs: &[Literal], n: usize, a: &StoreTerm, c: &StoreTerm, p: &Place) -> Option<usize>
     requires { n ≤ length xs.now }
@@ -100,7 +103,7 @@ fn used_along(
     c: &StoreTerm,
 ) -> Option<usize>
     requires { n ≤ length xs.now }
-    ensures used { result ≡ used_along a.now c.now (all_signed xs.now) (Some n) (written_in t.now) }
+    ensures used { result ≡ used_behind a.now c.now (all_signed xs.now) n t.now }
     ensures within { MatchOption result (Unit {0}) (λ k. k ≤ length xs.now) }
 {
     let mut used = n;
@@ -119,7 +122,7 @@ fn used_along(
 #[tactic(auto, using(crate::proofs::WalkedWrites::length_signed), unfolding(crate::specs::WrittenAlike::all_are_used))]
 fn uses_all(xs: &[Literal], n: usize, a: &StoreTerm, c: &StoreTerm) -> bool
     requires { n ≤ length xs.now }
-    ensures { result ≡ all_are_used (all_signed xs.now) (used_along a.now c.now (all_signed xs.now) (Some n) (written_in c.now)) }
+    ensures { result ≡ uses_all a.now c.now (all_signed xs.now) n }
 {
     match used_along(xs, n, c, a, c) {
         Some(used) => used == xs.len(),
@@ -127,10 +130,11 @@ fn uses_all(xs: &[Literal], n: usize, a: &StoreTerm, c: &StoreTerm) -> bool
     }
 }
 
-// Whether the literals deny, one for one, that the two stores are read alike at each place that is written in them.
+// Whether the literals deny, one for one, that the two stores are read alike at each place that is
+// written in them.
 #[tactic(auto, using(crate::proofs::WalkedWrites::some_used, crate::proofs::WalkedWrites::none_used))]
 fn deny_reads(xs: &[Literal], a: &StoreTerm, c: &StoreTerm) -> bool
-    ensures { result ≡ all_same (all_signed xs.now) (map (read_unlike a.now c.now) (places_written a.now c.now)) }
+    ensures { result ≡ all_same (all_signed xs.now) (all_read_unlike a.now c.now) }
 {
     match used_along(xs, 0, a, a, c) {
         Some(used) => uses_all(xs, used, a, c),
@@ -140,7 +144,7 @@ fn deny_reads(xs: &[Literal], a: &StoreTerm, c: &StoreTerm) -> bool
 
 #[tactic(auto, unfolding(crate::specs::WriteLaws::written_alike, crate::specs::Signed::all_same))]
 fn are_written_alike(conditions: &[Literal], a: &StoreTerm, c: &StoreTerm) -> bool
-    ensures { result ≡ written_alike (Some (plus (SameStore a.now c.now))) (all_signed conditions.now) }
+    ensures { result ≡ written_alike (Some (same_stores a.now c.now)) (all_signed conditions.now) }
 {
     match conditions.split_first() {
         Some((first, rest)) => denies_stores(first, base(a), base(c)) && deny_reads(rest, a, c),
