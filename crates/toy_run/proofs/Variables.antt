@@ -70,9 +70,9 @@ read_cell (e ∷ es) s x i is =
 no_variable : (es : List (Place × ℤ)) → ((p : Place) → p.indices ≡ [] → lookup (is_at (place_cmp p)) es ≡ None) → NoVariable (store_of es)
 no_variable es none x = read_made es (place_of_variable x) ∙ ap held (none (place_of_variable x) refl)
 
-pub variable_read : (vs : List (Bor (List ℕ) × ℤ)) (es : List (Place × ℤ)) (p : Place) → ((q : Place) → q.indices ≡ [] → lookup (is_at (place_cmp q)) es ≡ None)
-    → p.indices ≡ [] → read (with_variables vs (store_of es)) (cell_of p) ≡ held (lookup (is_at (name_cmp p.name)) vs)
-variable_read vs es p none is = ap (λ l. read (with_variables vs (store_of es)) (p.name.now, l)) is ∙ read_variable vs (store_of es) p.name (no_variable es none)
+pub variable_read : (vs : List (Bor (List ℕ) × ℤ)) (es : List (Place × ℤ)) (x : Bor (List ℕ)) → ((q : Place) → q.indices ≡ [] → lookup (is_at (place_cmp q)) es ≡ None)
+    → read (with_variables vs (store_of es)) (x.now, []) ≡ held (lookup (is_at (name_cmp x)) vs)
+variable_read vs es x none = read_variable vs (store_of es) x (no_variable es none)
 
 pub cell_read : (vs : List (Bor (List ℕ) × ℤ)) (es : List (Place × ℤ)) (p : Place) → p.indices ≢ [] → read (with_variables vs (store_of es)) (cell_of p) ≡ held (lookup (is_at (place_cmp p)) es)
 cell_read vs es p some = at p.indices some ∙ read_made es p
@@ -109,12 +109,10 @@ set_variable vs ws s k v none changed = agreeing_is_equal _ _ (λ c. at c.0 c.1)
         ∙ ap (λ b. cond b v (read (with_variables vs s) (x, i ∷ is))) (sym (never_tie x k.now i is))
         ∙ sym (read-write (with_variables vs s) (k.now, []) v (x, i ∷ is))
 
-pub variable_set : (vs ws : List (Bor (List ℕ) × ℤ)) (es : List (Place × ℤ)) (p : Place) (v : ℤ) → ((q : Place) → q.indices ≡ [] → lookup (is_at (place_cmp q)) es ≡ None)
-    → ((q : Bor (List ℕ)) → lookup (is_at (name_cmp q)) ws ≡ cond (is_at (name_cmp p.name) q) (Some v) (lookup (is_at (name_cmp q)) vs)) → p.indices ≡ []
-    → with_variables ws (store_of es) ≡ write (with_variables vs (store_of es)) (cell_of p) v
-variable_set vs ws es p v none changed is =
-    set_variable vs ws (store_of es) p.name v (no_variable es none) changed
-    ∙ ap (λ l. write (with_variables vs (store_of es)) (p.name.now, l) v) (sym is)
+pub variable_set : (vs ws : List (Bor (List ℕ) × ℤ)) (es : List (Place × ℤ)) (x : Bor (List ℕ)) (v : ℤ) → ((q : Place) → q.indices ≡ [] → lookup (is_at (place_cmp q)) es ≡ None)
+    → ((q : Bor (List ℕ)) → lookup (is_at (name_cmp q)) ws ≡ cond (is_at (name_cmp x) q) (Some v) (lookup (is_at (name_cmp q)) vs))
+    → with_variables ws (store_of es) ≡ write (with_variables vs (store_of es)) (x.now, []) v
+variable_set vs ws es x v none changed = set_variable vs ws (store_of es) x v (no_variable es none) changed
 
 -- ---- a cell with indices that changes
 set_cell : (vs : List (Bor (List ℕ) × ℤ)) (s : Store) (x : List ℕ) (i : ℤ) (is : List ℤ) (v : ℤ) → with_variables vs (write s (x, i ∷ is) v) ≡ write (with_variables vs s) (x, i ∷ is) v

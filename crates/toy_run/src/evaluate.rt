@@ -1,10 +1,11 @@
 //! Values of expressions and the truth of tests, where all their parts are narrow.
 //! `specs/Narrow.antt` says where they are; values and truth are those of the meaning of programs.
 
-ghost use Rattle.std.specs.Prelude.{◌≡◌, IfOk};
+ghost use Rattle.std.specs.Prelude.{◌≡◌, IfOk, OnOk};
 ghost use Rattle.std.specs.Option.{SomeIff};
-ghost use Rattle.toy_imp.specs.Cell.{spelled};
+ghost use Rattle.toy_imp.specs.Cell.{spelled, variable};
 ghost use Rattle.toy_imp.specs.ExprView.{exprs_of};
+ghost use Rattle.toy_imp.specs.Store.{read, write};
 ghost use Rattle.toy_imp.specs.Truth.{truth};
 ghost use Rattle.toy_imp.specs.Value.{value, values};
 ghost use Rattle.toy_run.specs.Narrow.{NarrowExpr, NarrowExprs, NarrowTest};
@@ -17,15 +18,36 @@ use sqlite_items::Items;
 use std::alloc::Global;
 use toy_imp::{Expr, ExprNode, Name, NoMemory, Test, TestNode};
 
+/// The bytes of a name; a parameter that stands for no name has none.
+fn spelling(name: &Name) -> &[u8]
+    ensures { result.now ≡ spelled name.now }
+{
+    match name {
+        Name::Own(bytes) => bytes.as_slice(),
+        Name::Par(_) => &[],
+    }
+}
+
 /// The place of a name at indices.
 pub fn place<'a>(name: &'a Name, indices: Items<i128>) -> Place<'a>
     ensures { cell_of result ≡ (spelled name.now, indices) }
 {
-    let name = match name {
-        Name::Own(bytes) => bytes.as_slice(),
-        Name::Par(_) => &[],
-    };
+    let name = spelling(name);
     Place { name, indices }
+}
+
+/// What a variable holds.
+pub fn read_variable<'a>(x: &'a Name, memory: &Memory<'a>) -> i128
+    ensures { result ≡ read (store_in memory.now) (variable x.now) }
+{
+    memory.variable(spelling(x))
+}
+
+/// Lets a variable hold a value.
+pub fn write_variable<'a>(x: &'a Name, value: i128, memory: &mut Memory<'a>) -> Result<(), NoMemory>
+    ensures { OnOk result (store_in memory.new ≡ write (store_in memory.old) (variable x.now) value) }
+{
+    memory.set_variable(spelling(x), value)
 }
 
 /// The value of an expression, where all its parts are narrow.
@@ -41,6 +63,9 @@ pub fn evaluate<'a>(
     match &e.node {
         ExprNode::Num(z) => Ok(Some(i128::from(*z))),
         ExprNode::At(name, indices) => {
+            if indices.is_empty() {
+                return Ok(Some(read_variable(name, memory)));
+            }
             let Some(indices) = evaluate_all(alloc, indices.as_slice(), memory)? else {
                 return Ok(None);
             };

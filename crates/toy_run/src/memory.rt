@@ -43,17 +43,17 @@ impl<'a> Memory<'a> {
         ensures { result ≡ read (store_by self.now.variables.entries self.now.cells.entries) (cell_of place.now) }
     {
         if place.indices.is_empty() {
-            self.variable(place)
+            self.variable(place.name)
         } else {
             self.cell(place)
         }
     }
 
-    fn variable(&self, place: &Place<'a>) -> i128
-        requires { place.now.indices ≡ [] }
-        ensures { result ≡ read (store_by self.now.variables.entries self.now.cells.entries) (cell_of place.now) }
+    /// What the variable of the name holds.
+    pub fn variable(&self, name: &'a [u8]) -> i128
+        ensures { result ≡ read (store_by self.now.variables.entries self.now.cells.entries) (name.now, []) }
     {
-        match self.variables.get(&place.name) {
+        match self.variables.get(&name) {
             Some(value) => *value,
             None => 0,
         }
@@ -74,12 +74,20 @@ impl<'a> Memory<'a> {
         ensures { OnOk result (store_by self.new.variables.entries self.new.cells.entries ≡ write (store_by self.old.variables.entries self.old.cells.entries) (cell_of place.entry) value) }
     {
         if place.indices.is_empty() {
-            self.variables.insert(place.name, value)?;
+            self.set_variable(place.name, value)?;
         } else if value == 0 {
             self.cells.remove(&place);
         } else {
             self.cells.insert(place, value)?;
         }
+        Ok(())
+    }
+
+    /// Lets the variable of the name hold a value.
+    pub fn set_variable(&mut self, name: &'a [u8], value: i128) -> Result<(), NoMemory>
+        ensures { OnOk result (store_by self.new.variables.entries self.new.cells.entries ≡ write (store_by self.old.variables.entries self.old.cells.entries) (name.now, []) value) }
+    {
+        self.variables.insert(name, value)?;
         Ok(())
     }
 

@@ -10,11 +10,10 @@ ghost use Rattle.toy_run.specs.Ran.{ComesTo};
 ghost use Rattle.toy_run.specs.Memory.{store_in};
 ghost use Rattle.toy_run.specs.Work.{work_of, first_of, rest_of};
 
+use crate::evaluate::write_variable;
 use crate::memory::Memory;
 use crate::ran::Ran;
-use crate::step::{
-    Width, do_assert, do_for, do_if, do_let, do_put, do_turn, do_while, write_variable,
-};
+use crate::step::{Width, do_assert, do_for, do_if, do_let, do_put, do_turn, do_while};
 use crate::work::{Item, pop_item, push_block, push_item};
 use std::alloc::Global;
 use toy_imp::{Block, NoMemory, Stmt, StmtNode};
@@ -60,9 +59,9 @@ fn do_item<'a>(
 {
     match item {
         Item::Acts(s, rest) => do_stmt(alloc, s, rest, work, memory),
-        Item::Turns(x, next, high, body) => do_turn(alloc, x, next, high, body, work, memory),
+        Item::Turns(x, next, high, body) => do_turn(x, next, high, body, work, memory),
         Item::Restore(x, value) => {
-            write_variable(alloc, x, value, memory)?;
+            write_variable(x, value, memory)?;
             Ok(Width::Narrow)
         }
         Item::Halt => {

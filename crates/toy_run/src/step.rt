@@ -1,21 +1,21 @@
 //! The steps of statements and of the turns of a `for`.
 //! Each is the step of the meaning of programs where it is narrow, by `specs/Does.antt`.
 
-ghost use Rattle.std.specs.Prelude.{◌≡◌, IfOk, OnOk, ◌∷◌, ◌<ℤ◌};
+ghost use Rattle.std.specs.Prelude.{◌≡◌, IfOk, ◌∷◌, ◌<ℤ◌};
 ghost use Rattle.toy_imp.specs.Block.{put, assert_that, if_then, while_do, for_to, let_in};
 ghost use Rattle.toy_imp.specs.BlockView.{block_of};
-ghost use Rattle.toy_imp.specs.Cell.{variable};
+ghost use Rattle.toy_imp.specs.Expr.{no_exprs};
 ghost use Rattle.toy_imp.specs.ExprView.{exprs_of};
 ghost use Rattle.toy_imp.specs.Run.{act, turns, before};
-ghost use Rattle.toy_imp.specs.Store.{read, write};
 ghost use Rattle.toy_run.specs.Does.{Does};
 ghost use Rattle.toy_run.specs.Memory.{store_in};
 ghost use Rattle.toy_run.specs.Work.{work_of};
 
-use crate::evaluate::{evaluate, evaluate_all, evaluate_both, is_true, place};
+use crate::evaluate::{
+    evaluate, evaluate_all, evaluate_both, is_true, place, read_variable, write_variable,
+};
 use crate::memory::Memory;
 use crate::work::{Item, push_block, push_item};
-use sqlite_items::Items;
 use std::alloc::Global;
 use toy_imp::{Block, Expr, Name, NoMemory, Stmt, Test};
 
@@ -38,6 +38,9 @@ pub fn do_put<'a>(
 ) -> Result<Width, NoMemory>
     ensures { IfOk result (λ w. Does (act (put x.now (exprs_of indices.now) e.now)) (store_in memory.old) (work_of work.old.items) w (store_in memory.new) (work_of work.new.items)) }
 {
+    if indices.is_empty() {
+        return do_set(alloc, x, e, work, memory);
+    }
     let Some(indices) = evaluate_all(alloc, indices, memory)? else {
         return Ok(Width::Wide);
     };
@@ -45,6 +48,24 @@ pub fn do_put<'a>(
         return Ok(Width::Wide);
     };
     memory.write(place(x, indices), value)?;
+    Ok(Width::Narrow)
+}
+
+// Writes the value of `e` into a variable.
+#[tactic(auto, unfolding(toy_imp::specs::Run::step, toy_imp::specs::Value::value, crate::specs::Narrow::NarrowItem, crate::specs::Narrow::NarrowExpr))]
+fn do_set<'a>(
+    alloc: Global,
+    x: &'a Name,
+    e: &'a Expr,
+    work: &mut Vec<Item<'a>>,
+    memory: &mut Memory<'a>,
+) -> Result<Width, NoMemory>
+    ensures { IfOk result (λ w. Does (act (put x.now no_exprs e.now)) (store_in memory.old) (work_of work.old.items) w (store_in memory.new) (work_of work.new.items)) }
+{
+    let Some(value) = evaluate(alloc, e, memory)? else {
+        return Ok(Width::Wide);
+    };
+    write_variable(x, value, memory)?;
     Ok(Width::Narrow)
 }
 
@@ -132,7 +153,7 @@ pub fn do_for<'a>(
     let Some((low, high)) = evaluate_both(alloc, low, high, memory)? else {
         return Ok(Width::Wide);
     };
-    let old = read_variable(alloc, x, memory);
+    let old = read_variable(x, memory);
     push_item(work, Item::Restore(x, old))?;
     push_item(work, Item::Turns(x, low, high, b))?;
     Ok(Width::Narrow)
@@ -153,17 +174,16 @@ pub fn do_let<'a>(
     let Some(value) = evaluate(alloc, e, memory)? else {
         return Ok(Width::Wide);
     };
-    let old = read_variable(alloc, x, memory);
+    let old = read_variable(x, memory);
     push_item(work, Item::Restore(x, old))?;
     push_block(work, b.stmts.as_slice())?;
-    write_variable(alloc, x, value, memory)?;
+    write_variable(x, value, memory)?;
     Ok(Width::Narrow)
 }
 
 /// Does the turn at `next`, where that is below `high`, and leaves the turns from the next number on.
 #[tactic(auto, unfolding(toy_imp::specs::Run::step, crate::specs::Narrow::NarrowItem))]
 pub fn do_turn<'a>(
-    alloc: Global,
     x: &'a Name,
     next: i128,
     high: i128,
@@ -176,26 +196,7 @@ pub fn do_turn<'a>(
     if next < high {
         push_item(work, Item::Turns(x, next + 1, high, b))?;
         push_block(work, b.stmts.as_slice())?;
-        write_variable(alloc, x, next, memory)?;
+        write_variable(x, next, memory)?;
     }
     Ok(Width::Narrow)
-}
-
-/// What a variable holds.
-pub fn read_variable<'a>(alloc: Global, x: &'a Name, memory: &Memory<'a>) -> i128
-    ensures { result ≡ read (store_in memory.now) (variable x.now) }
-{
-    memory.read(&place(x, Items::new(alloc)))
-}
-
-/// Lets a variable hold a value.
-pub fn write_variable<'a>(
-    alloc: Global,
-    x: &'a Name,
-    value: i128,
-    memory: &mut Memory<'a>,
-) -> Result<(), NoMemory>
-    ensures { OnOk result (store_in memory.new ≡ write (store_in memory.old) (variable x.now) value) }
-{
-    memory.write(place(x, Items::new(alloc)), value)
 }
