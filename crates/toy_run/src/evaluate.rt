@@ -4,8 +4,10 @@
 ghost use Rattle.std.specs.Prelude.{◌≡◌, IfOk, OnOk};
 ghost use Rattle.std.specs.Option.{SomeIff};
 ghost use Rattle.toy_imp.specs.Cell.{spelled, variable};
+ghost use Rattle.toy_imp.specs.Expr.{add, sub, mul};
 ghost use Rattle.toy_imp.specs.ExprView.{exprs_of};
 ghost use Rattle.toy_imp.specs.Store.{read, write};
+ghost use Rattle.toy_imp.specs.Test.{less, less_eq, equal};
 ghost use Rattle.toy_imp.specs.Truth.{truth};
 ghost use Rattle.toy_imp.specs.Value.{value, values};
 ghost use Rattle.toy_run.specs.Narrow.{NarrowExpr, NarrowExprs, NarrowTest};
@@ -72,37 +74,23 @@ pub fn evaluate<'a>(
             let place = place(name, indices);
             Ok(Some(memory.read(&place)))
         }
-        ExprNode::Add(a, b) => {
-            let Some((a, b)) = evaluate_both(alloc, a.get(), b.get(), memory)? else {
-                return Ok(None);
-            };
-            Ok(a.checked_add(b))
-        }
-        ExprNode::Sub(a, b) => {
-            let Some((a, b)) = evaluate_both(alloc, a.get(), b.get(), memory)? else {
-                return Ok(None);
-            };
-            Ok(a.checked_sub(b))
-        }
-        ExprNode::Mul(a, b) => {
-            let Some((a, b)) = evaluate_both(alloc, a.get(), b.get(), memory)? else {
-                return Ok(None);
-            };
-            Ok(a.checked_mul(b))
-        }
+        ExprNode::Add(a, b) => evaluate_sum(alloc, a.get(), b.get(), memory),
+        ExprNode::Sub(a, b) => evaluate_difference(alloc, a.get(), b.get(), memory),
+        ExprNode::Mul(a, b) => evaluate_product(alloc, a.get(), b.get(), memory),
         ExprNode::Par(_) => Ok(Some(0)),
     }
 }
 
-/// The values of two expressions, where all their parts are narrow.
+// The sum of two expressions, where it and all its parts are narrow.
 #[cycle(evaluate)]
-pub fn evaluate_both<'a>(
+#[tactic(auto, unfolding(toy_imp::specs::Value::value, crate::specs::Narrow::NarrowExpr))]
+fn evaluate_sum<'a>(
     alloc: Global,
     a: &'a Expr,
     b: &'a Expr,
     memory: &Memory<'a>,
-) -> Result<Option<(i128, i128)>, NoMemory>
-    ensures { IfOk result (λ o. SomeIff o (NarrowExpr a.now (store_in memory.now) × NarrowExpr b.now (store_in memory.now)) (value a.now (store_in memory.now), value b.now (store_in memory.now))) }
+) -> Result<Option<i128>, NoMemory>
+    ensures { IfOk result (λ o. SomeIff o (NarrowExpr (add a.now b.now) (store_in memory.now)) (value (add a.now b.now) (store_in memory.now))) }
 {
     let Some(a) = evaluate(alloc, a, memory)? else {
         return Ok(None);
@@ -110,7 +98,47 @@ pub fn evaluate_both<'a>(
     let Some(b) = evaluate(alloc, b, memory)? else {
         return Ok(None);
     };
-    Ok(Some((a, b)))
+    Ok(a.checked_add(b))
+}
+
+// The difference of two expressions, where it and all its parts are narrow.
+#[cycle(evaluate)]
+#[tactic(auto, unfolding(toy_imp::specs::Value::value, crate::specs::Narrow::NarrowExpr))]
+fn evaluate_difference<'a>(
+    alloc: Global,
+    a: &'a Expr,
+    b: &'a Expr,
+    memory: &Memory<'a>,
+) -> Result<Option<i128>, NoMemory>
+    ensures { IfOk result (λ o. SomeIff o (NarrowExpr (sub a.now b.now) (store_in memory.now)) (value (sub a.now b.now) (store_in memory.now))) }
+{
+    let Some(a) = evaluate(alloc, a, memory)? else {
+        return Ok(None);
+    };
+    let Some(b) = evaluate(alloc, b, memory)? else {
+        return Ok(None);
+    };
+    Ok(a.checked_sub(b))
+}
+
+// The product of two expressions, where it and all its parts are narrow.
+#[cycle(evaluate)]
+#[tactic(auto, unfolding(toy_imp::specs::Value::value, crate::specs::Narrow::NarrowExpr))]
+fn evaluate_product<'a>(
+    alloc: Global,
+    a: &'a Expr,
+    b: &'a Expr,
+    memory: &Memory<'a>,
+) -> Result<Option<i128>, NoMemory>
+    ensures { IfOk result (λ o. SomeIff o (NarrowExpr (mul a.now b.now) (store_in memory.now)) (value (mul a.now b.now) (store_in memory.now))) }
+{
+    let Some(a) = evaluate(alloc, a, memory)? else {
+        return Ok(None);
+    };
+    let Some(b) = evaluate(alloc, b, memory)? else {
+        return Ok(None);
+    };
+    Ok(a.checked_mul(b))
 }
 
 /// The values of expressions, in their order, where all their parts are narrow.
@@ -133,6 +161,24 @@ pub fn evaluate_all<'a>(
     Ok(Some(all))
 }
 
+/// The values of two expressions, where all their parts are narrow.
+pub fn evaluate_both<'a>(
+    alloc: Global,
+    a: &'a Expr,
+    b: &'a Expr,
+    memory: &Memory<'a>,
+) -> Result<Option<(i128, i128)>, NoMemory>
+    ensures { IfOk result (λ o. SomeIff o (NarrowExpr a.now (store_in memory.now) × NarrowExpr b.now (store_in memory.now)) (value a.now (store_in memory.now), value b.now (store_in memory.now))) }
+{
+    let Some(a) = evaluate(alloc, a, memory)? else {
+        return Ok(None);
+    };
+    let Some(b) = evaluate(alloc, b, memory)? else {
+        return Ok(None);
+    };
+    Ok(Some((a, b)))
+}
+
 /// The truth of a test, where all its parts are narrow.
 #[cycle(is_true)]
 #[tactic(auto, unfolding(toy_imp::specs::Truth::truth, crate::specs::Narrow::NarrowTest))]
@@ -144,24 +190,9 @@ pub fn is_true<'a>(
     ensures { IfOk result (λ o. SomeIff o (NarrowTest t.now (store_in memory.now)) (truth t.now (store_in memory.now))) }
 {
     match &t.node {
-        TestNode::Less(a, b) => {
-            let Some((a, b)) = evaluate_both(alloc, a, b, memory)? else {
-                return Ok(None);
-            };
-            Ok(Some(a < b))
-        }
-        TestNode::LessEq(a, b) => {
-            let Some((a, b)) = evaluate_both(alloc, a, b, memory)? else {
-                return Ok(None);
-            };
-            Ok(Some(a <= b))
-        }
-        TestNode::Equal(a, b) => {
-            let Some((a, b)) = evaluate_both(alloc, a, b, memory)? else {
-                return Ok(None);
-            };
-            Ok(Some(a == b))
-        }
+        TestNode::Less(a, b) => is_less(alloc, a, b, memory),
+        TestNode::LessEq(a, b) => is_at_most(alloc, a, b, memory),
+        TestNode::Equal(a, b) => are_equal(alloc, a, b, memory),
         TestNode::Not(t) => {
             let Some(t) = is_true(alloc, t.get(), memory)? else {
                 return Ok(None);
@@ -201,4 +232,61 @@ fn are_true<'a>(
         return Ok(None);
     };
     Ok(Some((t, u)))
+}
+
+// Whether one expression is less than another, where all their parts are narrow.
+#[tactic(auto, unfolding(toy_imp::specs::Truth::truth, crate::specs::Narrow::NarrowTest))]
+fn is_less<'a>(
+    alloc: Global,
+    a: &'a Expr,
+    b: &'a Expr,
+    memory: &Memory<'a>,
+) -> Result<Option<bool>, NoMemory>
+    ensures { IfOk result (λ o. SomeIff o (NarrowTest (less a.now b.now) (store_in memory.now)) (truth (less a.now b.now) (store_in memory.now))) }
+{
+    let Some(a) = evaluate(alloc, a, memory)? else {
+        return Ok(None);
+    };
+    let Some(b) = evaluate(alloc, b, memory)? else {
+        return Ok(None);
+    };
+    Ok(Some(a < b))
+}
+
+// Whether one expression is at most another, where all their parts are narrow.
+#[tactic(auto, unfolding(toy_imp::specs::Truth::truth, crate::specs::Narrow::NarrowTest))]
+fn is_at_most<'a>(
+    alloc: Global,
+    a: &'a Expr,
+    b: &'a Expr,
+    memory: &Memory<'a>,
+) -> Result<Option<bool>, NoMemory>
+    ensures { IfOk result (λ o. SomeIff o (NarrowTest (less_eq a.now b.now) (store_in memory.now)) (truth (less_eq a.now b.now) (store_in memory.now))) }
+{
+    let Some(a) = evaluate(alloc, a, memory)? else {
+        return Ok(None);
+    };
+    let Some(b) = evaluate(alloc, b, memory)? else {
+        return Ok(None);
+    };
+    Ok(Some(a <= b))
+}
+
+// Whether two expressions are equal, where all their parts are narrow.
+#[tactic(auto, unfolding(toy_imp::specs::Truth::truth, crate::specs::Narrow::NarrowTest))]
+fn are_equal<'a>(
+    alloc: Global,
+    a: &'a Expr,
+    b: &'a Expr,
+    memory: &Memory<'a>,
+) -> Result<Option<bool>, NoMemory>
+    ensures { IfOk result (λ o. SomeIff o (NarrowTest (equal a.now b.now) (store_in memory.now)) (truth (equal a.now b.now) (store_in memory.now))) }
+{
+    let Some(a) = evaluate(alloc, a, memory)? else {
+        return Ok(None);
+    };
+    let Some(b) = evaluate(alloc, b, memory)? else {
+        return Ok(None);
+    };
+    Ok(Some(a == b))
 }

@@ -9,8 +9,14 @@ use Rattle.toy_run.proofs.evaluate.+evaluate.Given as goal
 abbrev pub decreases-evaluate : goal.decreases-evaluate
 decreases-evaluate l = 2 * depth l.e.now
 
-abbrev pub decreases-evaluate_both : goal.decreases-evaluate_both
-decreases-evaluate_both l = 2 * max (depth l.a.now) (depth l.b.now) + 1
+abbrev pub decreases-evaluate_sum : goal.decreases-evaluate_sum
+decreases-evaluate_sum l = 2 * max (depth l.a.now) (depth l.b.now) + 1
+
+abbrev pub decreases-evaluate_difference : goal.decreases-evaluate_difference
+decreases-evaluate_difference l = 2 * max (depth l.a.now) (depth l.b.now) + 1
+
+abbrev pub decreases-evaluate_product : goal.decreases-evaluate_product
+decreases-evaluate_product l = 2 * max (depth l.a.now) (depth l.b.now) + 1
 
 abbrev pub decreases-evaluate_all : goal.decreases-evaluate_all
 decreases-evaluate_all l = 2 * depths (exprs_of l.es.now) + 1
