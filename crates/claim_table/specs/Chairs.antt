@@ -3,7 +3,7 @@ use Rattle.std.specs.Prelude.{◌≡◌, ℕ, ◌+◌, ◌-◌, ◌<◌, ◌≤�
 use Rattle.std.specs.List.{range_with_len}
 use Rattle.atomic_table.specs.Seated.{TableId}
 use Rattle.claim_table.specs.declared.view.View.{View}
-use Rattle.claim_table.specs.Occurrences.{times}
+use Rattle.claim_table.specs.Views.{Holds, HasLookedAt}
 use Rattle.claim_table.specs.Steps.{Place}
 
 -- the table that the chair was made with, and what it knows
@@ -18,10 +18,6 @@ slot_count table = table.words - 1
 -- so many slots, of which there are at most 524,288
 abbrev pub HasSlots : ℕ → TableId → Type 0
 HasSlots slots table = (slots + 1 ≡ table.words) × (slots ≤ 524288)
-
--- the chair holds the slot
-abbrev pub Holds : View → ℕ → Type 0
-Holds v slot = 0 < times slot v.held
 
 -- each slot that the chair holds is below the count that it has seen
 abbrev pub HeldBelow : View → Type 0
@@ -38,7 +34,7 @@ pub record IsSeated (number : ℕ) (table : TableId) (me : Place) : Type 0 where
 
 -- since its last load of the count the chair found each of the first n slots held or done
 abbrev pub LookedBelow : ℕ → View → Type 0
-LookedBelow n v = (slot : ℕ) → slot < n → 0 < times slot v.looked
+LookedBelow n v = (slot : ℕ) → slot < n → HasLookedAt v slot
 
 -- one more load of the count, which is no less than before; the number and the finished list stay
 pub record LoadsOnce (v w : View) : Type 0 where

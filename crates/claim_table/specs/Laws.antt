@@ -1,7 +1,8 @@
 -- What follows from the rule for any two chairs, at each moment.
-use Rattle.std.specs.Prelude.{◌≡◌, ℕ, ◌<◌, ◌++◌, ◌∷◌, [], List}
+use Rattle.std.specs.Prelude.{◌≡◌, ℕ, ◌++◌, ◌∷◌, [], List}
 use Rattle.claim_table.specs.declared.view.View.{View}
 use Rattle.claim_table.specs.Occurrences.{times, without}
+use Rattle.claim_table.specs.Views.{Holds, HasFinished}
 use Rattle.claim_table.specs.Rule.{Moment, Knows, slot_word, Kept}
 
 -- no slot is held by two chairs
@@ -9,16 +10,16 @@ abbrev pub HeldByOne : Type 0
 HeldByOne =
     (slots : ℕ) (s : Moment) → Kept slots s
     → (slot j k : ℕ) (v w : View) → Knows s j v → Knows s k w
-    → 0 < times slot v.held → 0 < times slot w.held → j ≡ k
+    → Holds v slot → Holds w slot → j ≡ k
 
 -- a finished slot is done, no chair holds it, and no other chair has finished it
 abbrev pub FinishedStays : Type 0
 FinishedStays =
     (slots : ℕ) (s : Moment) → Kept slots s
     → (slot j k : ℕ) (v w : View) → Knows s j v → Knows s k w
-    → 0 < times slot v.finished
-    → (slot_word s.words slot ≡ 1) × (times slot w.held ≡ 0) × (0 < times slot w.finished → j ≡ k)
+    → HasFinished v slot
+    → (slot_word s.words slot ≡ 1) × (times slot w.held ≡ 0) × (HasFinished w slot → j ≡ k)
 
 -- a slot that comes onto the held list fresh and is taken off it leaves the list as it was
-abbrev pub TakenOff : Type 0
-TakenOff = (slot : ℕ) (held : List ℕ) → times slot held ≡ 0 → without slot (held ++ slot ∷ []) ≡ held
+abbrev pub FreshSlotComesOff : Type 0
+FreshSlotComesOff = (slot : ℕ) (held : List ℕ) → times slot held ≡ 0 → without slot (held ++ slot ∷ []) ≡ held

@@ -6,8 +6,9 @@ use lib.ListN.{get_elem?}
 use Rattle.atomic_table.specs.Table.{State}
 use Rattle.claim_table.specs.declared.view.View.{View}
 use Rattle.claim_table.specs.Occurrences.{times}
+use Rattle.claim_table.specs.Views.{Holds, HasFinished}
 
--- what one moment of the table is: its words, and what each chair knows. It lends no values
+-- the table at one moment: its words, and what each chair knows
 abbrev pub Moment : Type 0
 Moment = State (Unit {0}) View
 
@@ -15,6 +16,7 @@ Moment = State (Unit {0}) View
 abbrev pub Knows : Moment → ℕ → View → Type 0
 Knows s number v = get_elem? s.views number ≡ some v
 
+-- how many slots are published
 abbrev pub count_of : List ℕ → ℕ
 count_of words = slice_index words 0
 
@@ -32,8 +34,8 @@ pub record Fits (slots : ℕ) (words : List ℕ) (chair : ℕ) (v : View) : Type
   pub slots_are : v.slots ≡ slots
   pub number : v.number ≡ chair
   pub seen : v.seen ≤ count_of words
-  pub held : (slot : ℕ) → 0 < times slot v.held → slot_word words slot ≡ chair + 2
-  pub finished : (slot : ℕ) → 0 < times slot v.finished → slot_word words slot ≡ 1
+  pub held : (slot : ℕ) → Holds v slot → slot_word words slot ≡ chair + 2
+  pub finished : (slot : ℕ) → HasFinished v slot → slot_word words slot ≡ 1
   pub held_once : (slot : ℕ) → times slot v.held ≤ 1
   pub finished_once : (slot : ℕ) → times slot v.finished ≤ 1
 
@@ -41,8 +43,9 @@ pub record Fits (slots : ℕ) (words : List ℕ) (chair : ℕ) (v : View) : Type
 abbrev pub FinishedByOne : Moment → Type 0
 FinishedByOne s =
     (slot j k : ℕ) (v w : View) → Knows s j v → Knows s k w
-    → 0 < times slot v.finished → 0 < times slot w.finished → j ≡ k
+    → HasFinished v slot → HasFinished w slot → j ≡ k
 
+-- the rule: of the words, of how many chairs were made, which chair 0 knows, and of what each chair knows
 pub record Kept (slots : ℕ) (s : Moment) : Type 0 where
   pub words : AreWords slots s.words
   pub made : (v : View) → Knows s 0 v → v.made ≡ length s.views

@@ -1,7 +1,17 @@
 -- What a chair knows at first, and after each kind of step.
-use Rattle.std.specs.Prelude.{ℕ, ◌+◌, [], ◌∷◌, ◌++◌}
+use Rattle.std.specs.Prelude.{ℕ, ◌+◌, ◌<◌, [], ◌∷◌, ◌++◌}
 use Rattle.claim_table.specs.declared.view.View.{View}
-use Rattle.claim_table.specs.Occurrences.{without}
+use Rattle.claim_table.specs.Occurrences.{times, without}
+
+abbrev pub Holds : View → ℕ → Type 0
+Holds v slot = 0 < times slot v.held
+
+abbrev pub HasFinished : View → ℕ → Type 0
+HasFinished v slot = 0 < times slot v.finished
+
+-- since its last load of the count the chair found the slot held or done
+abbrev pub HasLookedAt : View → ℕ → Type 0
+HasLookedAt v slot = 0 < times slot v.looked
 
 -- chair 0 of a table of so many slots, as long as it is the only one
 abbrev pub first_view : ℕ → View

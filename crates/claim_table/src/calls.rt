@@ -2,11 +2,11 @@
 //! None takes memory or waits. `specs/Views.antt` says what each makes of a chair, under the rule of
 //! `specs/Rule.antt`.
 
-ghost use Rattle.std.specs.Prelude.{◌≡◌, ◌+◌, ◌<◌, ◌≤◌, [], ◌∷◌, ◌++◌, max, IfSome, IfNone, MatchBool};
+ghost use Rattle.std.specs.Prelude.{◌≡◌, ◌<◌, ◌≤◌, [], ◌∷◌, ◌++◌, max, IfSome, IfNone, MatchBool};
 ghost use Rattle.claim_table.specs.Occurrences.{times};
-ghost use Rattle.claim_table.specs.Views.{after_load, after_look, after_claim};
+ghost use Rattle.claim_table.specs.Views.{Holds, after_load, after_look, after_claim};
 ghost use Rattle.claim_table.specs.Views.{after_finish, after_free, after_publish};
-ghost use Rattle.claim_table.specs.Chairs.{slot_count, Holds, LookedBelow, LoadsOnce};
+ghost use Rattle.claim_table.specs.Chairs.{slot_count, LookedBelow, LoadsOnce};
 
 use crate::chair::Chair;
 use crate::steps::{Claim, Finish, Free, LoadCount, Look, Publish};

@@ -1,7 +1,7 @@
 //! What the rule of the table means for any two chairs, each law the contract of a function that does nothing.
 //! The statements are in `specs/Laws.antt`.
 
-ghost use Rattle.claim_table.specs.Laws.{HeldByOne, FinishedStays, TakenOff};
+ghost use Rattle.claim_table.specs.Laws.{HeldByOne, FinishedStays, FreshSlotComesOff};
 
 /// No slot is held by two chairs, at any moment.
 pub fn held_by_one()
@@ -15,6 +15,6 @@ pub fn finished_stays()
 {}
 
 /// A slot that was not on the held list, put last on it and taken off again, leaves the list as it was.
-pub fn taken_off()
-    ensures { TakenOff }
+pub fn fresh_slot_comes_off()
+    ensures { FreshSlotComesOff }
 {}

@@ -1,7 +1,8 @@
 //! Three slots and two chairs, call by call. The answers are known beforehand.
 
 ghost use Rattle.std.specs.Prelude.{◌≡◌};
-ghost use Rattle.claim_table.specs.Chairs.{slot_count, Holds};
+ghost use Rattle.claim_table.specs.Chairs.{slot_count};
+ghost use Rattle.claim_table.specs.Views.{Holds};
 
 use claim_table::{Chair, ClaimTable};
 use std::process::Abort;

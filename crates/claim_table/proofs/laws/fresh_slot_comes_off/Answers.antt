@@ -1,5 +1,5 @@
 use Rattle.claim_table.proofs.Occurrences.{without-push}
-use Rattle.claim_table.proofs.laws.taken_off.Goals as goal
+use Rattle.claim_table.proofs.laws.fresh_slot_comes_off.Goals as goal
 
 pub returns : goal.returns
 returns c = without-push
