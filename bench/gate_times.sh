@@ -3,8 +3,8 @@
 # `bench/gate_times.sh [--anew] [NAME..]`. A line is a crate, what was proved (itself, its tests, or its edits with the check that they
 # stand on), the seconds, and of how many processes. It looks at the processes once a second, and misses what one takes after the last look.
 set -euo pipefail
-# shellcheck source=bench/timing.sh
-source "$(dirname "${BASH_SOURCE[0]}")/timing.sh"
+folder=$(mktemp -d)
+trap 'rm -rf "$folder"' EXIT
 cd "$(dirname "${BASH_SOURCE[0]}")/.."
 rt ci "$@" > "$folder/log" 2>&1 &
 gate=$!
