@@ -1,0 +1,4 @@
+pub mod Obligations
+pub mod Owed
+pub mod PathsOfEntry
+pub mod Spots

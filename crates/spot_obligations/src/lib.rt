@@ -1,0 +1,18 @@
+//! What has to be shown of a relation between the two sides of a rule: spots, and the obligation at each.
+//! `specs/Owed.antt` says what a pair of paths owes, `specs/Obligations.antt` what the obligation at a spot is.
+#![tactic(auto)]
+
+mod entry;
+mod obligation_at;
+mod obligations;
+mod owed;
+mod pair_obligation;
+mod paths_of_entry;
+mod quiet;
+
+pub use entry::{Entry, Spot};
+pub use obligation_at::ObligationAt;
+pub use obligations::{is_exit, obligation, obligation_among};
+pub use owed::{Owed, falsehood, owed_at, paths_owe, sides_equal};
+pub use pair_obligation::{obligation_of, weighed_obligation};
+pub use paths_of_entry::{EntryPaths, entry_paths};
