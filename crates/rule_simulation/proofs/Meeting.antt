@@ -1,6 +1,6 @@
 -- One turn of the simulation. At an entry, with its conjuncts true under some table of runs, each side's run goes along one path;
 -- the obligations of this pair of paths say what is true where they stop.
-use Rattle.std.specs.Prelude.{◌≡◌, ◌<◌, ◌≤◌, ℕ, zero, suc, Bool, true, false, cond, not, ◌&&◌, List, [], ◌∷◌, ◌++◌, map, take, Option, Some, None, slice_get, find, is_none, ◌==◌, refl}
+use Rattle.std.specs.Prelude.{◌≡◌, ℕ, zero, suc, Bool, true, false, cond, not, ◌&&◌, List, [], ◌∷◌, ◌++◌, map, take, Option, Some, None, slice_get, is_none, ◌==◌, refl}
 use Rattle.std.specs.List.{list_all}
 use Rattle.std.proofs.Common.{sym, ◌∙◌, ap, subst, eqb-true}
 use Rattle.std.proofs.lemmas.Bool.{and_parts}
@@ -9,7 +9,6 @@ use Rattle.toy_imp.specs.declared.rule.Rule.{Rule}
 use Rattle.toy_imp.specs.Block.{Block}
 use Rattle.toy_imp.specs.Ends.{Reaches}
 use Rattle.toy_imp.specs.Faults.{well_formed, is_simulate}
-use Rattle.toy_imp.specs.Fill.{block_at}
 use Rattle.toy_imp.specs.Meets.{MeetsAll}
 use Rattle.toy_imp.specs.Run.{Outcome}
 use Rattle.toy_imp.specs.Store.{Store}
@@ -33,14 +32,13 @@ use Rattle.path_pairs.specs.declared.cut_points.CutPoints.{CutPoints}
 use Rattle.path_pairs.specs.declared.cut_points.Side.TheVariants.{Left, Right}
 use Rattle.path_pairs.specs.Paths.{path_limit}
 use Rattle.path_pairs.specs.Comes.{Comes}
-use Rattle.path_pairs.specs.PathLaws.{GetsOn, StopsAt, HaltsThere, StuckThere, Tells, is_taken, left_count, work_at}
+use Rattle.path_pairs.specs.PathLaws.{GetsOn, StopsAt, HaltsThere, StuckThere, Tells, left_count, work_at}
 use Rattle.path_pairs.specs.RulePaths.{TellsPaths, OnePlace, literals_of, CoversPath, CoversPaths}
 use Rattle.path_pairs.proofs.RulePaths.{rule_path_law, one_place, covers_each_list, literals_cover_paths}
 use Rattle.entry_pairs.proofs.AllPassing.{all_both}
 use Rattle.spot_obligations.specs.declared.entry.Entry.{Entry}
-use Rattle.spot_obligations.specs.declared.entry.Spot.{Spot}
 use Rattle.spot_obligations.specs.Owed.{Owed, one, nothing, sides_equal, falsehood, is_quiet, stands_at, entry_at, arrival, owed, owed_at}
-use Rattle.spot_obligations.specs.PathsOfEntry.{lefts, rights, is_exit, is_within, is_walked}
+use Rattle.spot_obligations.specs.PathsOfEntry.{lefts, rights, is_exit, is_walked}
 use Rattle.spot_obligations.specs.Obligations.{AtSpot, with_goal, with_right, with_left, among_paths, with_entry, at_spot, obligation_of}
 use Rattle.rule_simulation.specs.Shown.{IsOpen, IsShown, Shown}
 use Rattle.rule_simulation.proofs.Lookups.{Picked, found, all_take}
@@ -86,7 +84,7 @@ module _ (i : Instance) (T : List table.Entry) (l r : Store) (a b : StoreTerm) (
   all_covers_put (x ∷ cs) c = (covers_conjunct_put i T l r m n a b is_m is_n x c.0, all_covers_put cs c.1)
 
 -- ---- what stands at a spot
-at_spot_is : (rule : Rule) (points : CutPoints) (entries : List Entry) (k a b : ℕ) (c : Option ℕ) (e : Entry) (l r : Path) (goal : Conjunct)
+pub at_spot_is : (rule : Rule) (points : CutPoints) (entries : List Entry) (k a b : ℕ) (c : Option ℕ) (e : Entry) (l r : Path) (goal : Conjunct)
     → slice_get entries k ≡ Some e → is_walked rule points e ≡ true → slice_get (lefts rule points e) a ≡ Some l → slice_get (rights rule points e) b ≡ Some r
     → owed_at (owed rule.conditions entries l.stop r.stop) c ≡ Some goal
     → at_spot rule points entries (record { entry = k; left = a; right = b; conjunct = c }) ≡ Some (record { known = e.conjuncts; left = l; right = r; goal = goal })
@@ -113,10 +111,9 @@ goes_to i T l r side p q g s u same at =
     subst (λ x. Goes i side p x s at.store) (sym same) (record { comes = at.comes; gets_on = at.gets_on })
 
 module _ (f : ℕ → Bool) (i : Instance) (rule : Rule) (points : CutPoints) (entries : List Entry)
-  (well : well_formed rule ≡ true) (simulates : is_simulate rule.method ≡ true)
-  (fits : fits_kinds (map (λ p. p.kind) rule.params) i.fillings ≡ true) (meets : MeetsAll i rule.conditions)
-  (shown : Shown rule points entries) where
-
+    (well : well_formed rule ≡ true) (simulates : is_simulate rule.method ≡ true)
+    (fits : fits_kinds (map (λ p. p.kind) rule.params) i.fillings ≡ true) (meets : MeetsAll i rule.conditions)
+    (shown : Shown rule points entries) where
   -- both runs come to another entry
   abbrev pub BothGo : Entry → Store → Store → Type 0
   BothGo e l r = (g : Entry) (m n : Store) → Related (Reached f) i entries g m n → Goes i rule.left e.left g.left l m → Goes i rule.right e.right g.right r n → Reached f
@@ -133,9 +130,8 @@ module _ (f : ℕ → Bool) (i : Instance) (rule : Rule) (points : CutPoints) (e
     pub carries_back : (o : Outcome) → CarriesBack e l r o
 
   module _ (k a b : ℕ) (e : Entry) (left right : Path) (at_entry : slice_get entries k ≡ Some e) (walked : is_walked rule points e ≡ true)
-    (at_left : slice_get (lefts rule points e) a ≡ Some left) (at_right : slice_get (rights rule points e) b ≡ Some right)
-    (l r : Store) where
-
+      (at_left : slice_get (lefts rule points e) a ≡ Some left) (at_right : slice_get (rights rule points e) b ≡ Some right)
+      (l r : Store) where
     -- what is known under a table that covers both paths and the conjuncts of the entry
     record Stands (T : List table.Entry) : Type 0 where
       faithful : table.Faithful (Reached f) i T
@@ -298,9 +294,9 @@ module _ (f : ℕ → Bool) (i : Instance) (rule : Rule) (points : CutPoints) (e
       let of_lefts : CoversPaths i U l r ls = literals_cover_paths i U l r ls each.0 in
       let of_rights : CoversPaths i U l r rs = literals_cover_paths i U l r rs each.1 in
       let on_left : TellsPaths (Reached f) i U l r rule points Left e.left =
-          rule_path_law (Reached f) i U l r faithful rule points Left e.left well simulates is_open.before.left (none_is (path_limit rule points Left e.left) few.0) of_lefts.stores in
+      rule_path_law (Reached f) i U l r faithful rule points Left e.left well simulates is_open.before.left (none_is (path_limit rule points Left e.left) few.0) of_lefts.stores in
       let on_right : TellsPaths (Reached f) i U l r rule points Right e.right =
-          rule_path_law (Reached f) i U l r faithful rule points Right e.right well simulates is_open.before.right (none_is (path_limit rule points Right e.right) few.1) of_rights.stores in
+      rule_path_law (Reached f) i U l r faithful rule points Right e.right well simulates is_open.before.right (none_is (path_limit rule points Right e.right) few.1) of_rights.stores in
       let left : OnePlace i U l r ls on_left.path = one_place i U l r ls on_left.path on_left.only in
       let right : OnePlace i U l r rs on_right.path = one_place i U l r rs on_right.path on_right.only in
       let left_covers : CoversPath i U l r on_left.path = of_lefts.each left.place on_left.path left.there in

@@ -1,5 +1,5 @@
 -- What stands for a parameter that is quiet in a rule halts from no store, where the conditions of the rule are met.
-use Rattle.std.specs.Prelude.{◌≡◌, ◌<◌, ◌||◌, ◌==◌, ℕ, zero, suc, Bool, true, false, List, [], ◌∷◌, length, All, refl}
+use Rattle.std.specs.Prelude.{◌≡◌, ◌||◌, ◌==◌, ℕ, suc, Bool, true, false, List, [], ◌∷◌, refl}
 use Rattle.std.specs.List.{list_any}
 use Rattle.std.proofs.Common.{subst, eqb-true, arith}
 use Rattle.toy_imp.specs.declared.condition.Condition.{Condition}

@@ -1,15 +1,14 @@
 -- A relation of which each obligation holds proves its rule: the simulation goes from left to right, and from right to left.
-use Rattle.std.specs.Prelude.{◌≡◌, ◌⊎◌, ◌-◌, ◌<◌, ◌≤◌, ℕ, Bool, true, false, not, ◌&&◌, ◌||◌, ◌==◌, List, [], ◌∷◌, map, Some, slice_get, refl}
+use Rattle.std.specs.Prelude.{◌≡◌, ℕ, Bool, true, false, ◌&&◌, ◌==◌, List, [], ◌∷◌, map, Some, slice_get, refl}
 use Rattle.std.specs.List.{list_all}
 use Rattle.std.proofs.Common.{sym, ◌∙◌, ap, subst, eqb-true}
 use Rattle.std.proofs.lemmas.Bool.{and_parts}
 use Rattle.toy_imp.specs.declared.instance.Instance.{Instance}
 use Rattle.toy_imp.specs.declared.rule.Rule.{Rule}
 use Rattle.toy_imp.specs.Block.{Block}
-use Rattle.toy_imp.specs.Ends.{Reaches, ComesOut, Same}
-use Rattle.toy_imp.specs.Faults.{well_formed, is_simulate, same_pair, has_scope}
+use Rattle.toy_imp.specs.Ends.{Reaches, ComesOut}
+use Rattle.toy_imp.specs.Faults.{well_formed, is_simulate, has_scope}
 use Rattle.toy_imp.specs.Fill.{fill}
-use Rattle.toy_imp.specs.Fits.{fits}
 use Rattle.toy_imp.specs.Meets.{MeetsAll}
 use Rattle.toy_imp.specs.Points.{exit_point}
 use Rattle.toy_imp.specs.Run.{Item, before, Outcome, ended, run}
@@ -33,7 +32,7 @@ use Rattle.spot_obligations.specs.Owed.{sides_equal}
 use Rattle.spot_obligations.specs.PathsOfEntry.{is_exit}
 use Rattle.rule_simulation.specs.Shown.{plain, Shown}
 use Rattle.rule_simulation.proofs.Outcomes.{comes_out, coded, told}
-use Rattle.rule_simulation.proofs.Meeting.{Related, Goes, BothStop, meet}
+use Rattle.rule_simulation.proofs.Meeting.{Related, meet}
 use Rattle.rule_simulation.proofs.Simulation.{GoesOn, Stops, simulate}
 
 -- ---- where a simulation starts, and where it ends
@@ -64,8 +63,7 @@ end_carries here there l r o same one_ends other_ends runs =
     subst (λ p. Reaches there r p) (ap ended (sym same) ∙ one_outcome here l (ended l) o one_ends runs) other_ends
 
 module _ (rule : Rule) (points : CutPoints) (entries : List Entry) (well : well_formed rule ≡ true) (simulates : is_simulate rule.method ≡ true) (shown : Shown rule points entries)
-  (i : Instance) (fits_here : fits_kinds (map (λ p. p.kind) rule.params) i.fillings ≡ true) (meets : MeetsAll i rule.conditions) where
-
+    (i : Instance) (fits_here : fits_kinds (map (λ p. p.kind) rule.params) i.fillings ≡ true) (meets : MeetsAll i rule.conditions) where
   record AtExits (e : Entry) (l r : Store) : Type 0 where
     same : l ≡ r
     left_ends : Reaches (work_at i rule.left e.left) l (ended l)

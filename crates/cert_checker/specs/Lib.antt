@@ -1,0 +1,4 @@
+pub mod Beginnings
+pub mod CertificateLaws
+pub mod Certificates
+pub mod Taking
