@@ -61,6 +61,7 @@ fn arrival<'a>(entries: &'a [Entry], p: u32, q: u32) -> Owed<'a>
             return Owed::Each(e.conjuncts.as_slice());
         }
     }
+    // No entry stands there.
     Owed::Falsehood
 }
 
