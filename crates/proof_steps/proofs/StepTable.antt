@@ -1,5 +1,5 @@
 -- The ten reasons of a step: for each a use that is right, and one with a single slip that is wrong. All by computation.
-use Rattle.std.specs.Prelude.{◌≡◌, ℕ, pos, negsuc, ℤ, true, false, List, [], ◌∷◌, map, Option, Some, None, refl}
+use Rattle.std.specs.Prelude.{◌≡◌, ◌+◌, ◌^◌, ℕ, pos, negsuc, ℤ, true, false, List, [], ◌∷◌, map, Option, Some, None, refl}
 use Rattle.rule_terms.specs.Term.{StoreTerm, left_store, right_store, run, ValueTerm, num, add}
 use Rattle.rule_terms.specs.Order.{store_cmp, value_cmp, terms_cmp}
 use Rattle.rule_terms.specs.declared.obligation.Atom.{Atom}
@@ -12,6 +12,7 @@ use Rattle.law_clauses.specs.Laws.{is_clause}
 use Rattle.law_clauses.proofs.TableTerms.{one_value, five, variable, set, no_goal, plain}
 use Rattle.proof_steps.specs.declared.refutation.By.TheVariants.{Given, Known, Refl, Flip, Chain, Alike, Carry, Law, Meet, Sum}
 use Rattle.proof_steps.specs.declared.refutation.Step.{Step}
+use Rattle.proof_steps.specs.declared.refutation.SumRow.{SumRow}
 use Rattle.proof_steps.specs.declared.refutation.SumRow.TheVariants.{Of, Back, Num, Off, OffBack}
 use Rattle.proof_steps.specs.Cited.{cited}
 use Rattle.law_clauses.specs.Arguments.{store_top, value_top}
@@ -139,6 +140,38 @@ sum_of_two z = step (yes (AtMost a c z)) (Sum (Of 0 ∷ Of 1 ∷ []))
 sum_row : StepRow plain [] (yes (AtMost a b (negsuc 0)) ∷ yes (AtMost b c (pos 2)) ∷ []) (sum_of_two (pos 1)) (sum_of_two (pos 0))
 unfolding step_holds summed bound_of row_bound adds_up store_cmp value_cmp terms_cmp
 sum_row = (refl, refl)
+
+-- .. of a bound of a value by itself: without rows nothing is bounded
+abbrev at_most_itself : List SumRow → Step
+at_most_itself rows = step (yes (AtMost five five (pos 0))) (Sum rows)
+
+sum_row_without_rows : StepRow plain [] [] (at_most_itself (Num (pos 5) (pos 5) ∷ [])) (at_most_itself [])
+unfolding step_holds summed row_bound adds_up value_cmp
+sum_row_without_rows = (refl, refl)
+
+-- .. of numbers within 2^100, and one beyond; sums of rows likewise
+abbrev sum_of_one : Step
+sum_of_one = step (yes (AtMost a b (pos (2 ^ 101)))) (Sum (Of 0 ∷ []))
+
+greatest_row : step_holds plain [] (said (yes (AtMost a b (pos (2 ^ 100))) ∷ [])) sum_of_one ≡ true
+unfolding step_holds summed bound_of row_bound adds_up store_cmp value_cmp terms_cmp
+greatest_row = refl
+
+greater_row : step_holds plain [] (said (yes (AtMost a b (pos (2 ^ 100 + 1))) ∷ [])) sum_of_one ≡ false
+unfolding step_holds summed bound_of row_bound adds_up store_cmp value_cmp terms_cmp
+greater_row = refl
+
+-- .. where a sum up to some row passes 2^100 and the whole sum does not
+abbrev up_and_down : ℕ → Step
+up_and_down n = step (yes (AtMost a a (pos (2 ^ 101)))) (Sum (Of 0 ∷ Of n ∷ Of 2 ∷ Of 3 ∷ []))
+
+abbrev bounds_up_and_down : List Literal
+bounds_up_and_down =
+    yes (AtMost a b (pos (2 ^ 100))) ∷ yes (AtMost b c (pos 0)) ∷ yes (AtMost c b (negsuc 0)) ∷ yes (AtMost b a (pos 0)) ∷ yes (AtMost b c (pos 1)) ∷ []
+
+sum_row_of_partial_sums : StepRow plain [] bounds_up_and_down (up_and_down 1) (up_and_down 4)
+unfolding step_holds summed bound_of row_bound adds_up store_cmp value_cmp terms_cmp
+sum_row_of_partial_sums = (refl, refl)
 
 -- .. of an offset by 5, up and back
 abbrev up_by : ℤ → Step

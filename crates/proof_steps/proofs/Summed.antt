@@ -1,6 +1,6 @@
 -- Rows of a sum one by one, and constants by the shape of a term.
-use Rattle.std.specs.Prelude.{◌≡◌, ℤ, ◌+ℤ◌, Bool, true, false, ◌&&◌, List, ◌∷◌, Option, Some, None, refl}
-use Rattle.std.proofs.Common.{ap, ◌∙◌}
+use Rattle.std.specs.Prelude.{◌≡◌, ◌≢◌, ℤ, ◌+ℤ◌, Bool, true, false, ◌&&◌, List, [], ◌∷◌, length, Option, Some, None, refl}
+use Rattle.std.proofs.Common.{ap, ◌∙◌, arith}
 use Rattle.std.specs.Ordering.{int_eq}
 use Rattle.rule_terms.specs.Term.{ValueTerm, num, get, ev, add, sub, mul}
 use Rattle.rule_terms.specs.Order.{value_cmp, value_same}
@@ -8,6 +8,7 @@ use Rattle.proof_steps.specs.declared.refutation.Step.{Step}
 use Rattle.proof_steps.specs.declared.refutation.SumRow.{SumRow}
 use Rattle.proof_steps.specs.Sums.{Bound, row_bound, goes_on, goes_on_by, adds_up}
 use Rattle.proof_steps.specs.Rows.{gone_on, next_reached}
+use Rattle.proof_steps.specs.Steps.{has_rows}
 
 abbrev pub is_number : ℤ → ValueTerm → Bool
 is_number z (num y) = int_eq z y
@@ -48,3 +49,12 @@ row_taken earlier row rows a sum z c b more e = row_more earlier row rows a sum 
 pub row_refused : (earlier : List Step) (row : SumRow) (rows : List SumRow) (a : ValueTerm) (sum : ℤ) (z : ValueTerm) (c : ℤ) →
     next_reached (row_bound earlier row) (a, sum) ≡ None → adds_up earlier (row ∷ rows) a sum z c ≡ false
 row_refused earlier row rows a sum z c e = row_more earlier row rows a sum z c ∙ ap (goes_from (λ v by. adds_up earlier rows v by z c)) e
+
+-- ---- whether there are any
+pub no_rows : (rows : List SumRow) → length rows ≡ 0 → has_rows rows ≡ false
+no_rows [] e = refl
+no_rows (row ∷ rows) e = absurd (omega arith)
+
+pub some_rows : (rows : List SumRow) → length rows ≢ 0 → has_rows rows ≡ true
+some_rows [] e = absurd (e refl)
+some_rows (row ∷ rows) e = refl

@@ -22,7 +22,7 @@ use Rattle.proof_steps.specs.declared.refutation.SumRow.TheVariants.{Of, Back, N
 use Rattle.law_clauses.specs.Offsets.{offset}
 use Rattle.proof_steps.specs.Cited.{fact}
 use Rattle.proof_steps.specs.Sums.{Bound, bound_of, bound_back, over, under, row_bound, goes_on, goes_on_by, adds_up}
-use Rattle.proof_steps.specs.Steps.{met, summed}
+use Rattle.proof_steps.specs.Steps.{met, has_rows, summed}
 use Rattle.proof_steps.specs.Refutes.{is_absurd}
 use Rattle.proof_steps.proofs.Citing.{StepIsTrue, fact_true}
 
@@ -135,7 +135,9 @@ module _ (i : Instance) (T : List Entry) (l r : Store) where
 
     pub summed_true : (rows : List SumRow) (x : Signed) → summed earlier rows x ≡ true → IsTrueHere i T l r x
     unfolding summed
-    summed_true rows (plus (AtMost a z c)) e = at_most_from i T l r a z c (added_true rows a (pos 0) z c e (Value a) (start (Value a)))
+    summed_true rows (plus (AtMost a z c)) e =
+        let p = and_parts (has_rows rows) _ e in
+        at_most_from i T l r a z c (added_true rows a (pos 0) z c p.1 (Value a) (start (Value a)))
     summed_true rows _ e = absurd (true≢false (sym e))
 
   pub met_true : (o p : Option Signed) (x : Signed) → met o p x ≡ true → IfThere (IsTrueHere i T l r) o → IfThere (IsTrueHere i T l r) p → IsTrueHere i T l r x

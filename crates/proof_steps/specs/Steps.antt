@@ -81,9 +81,13 @@ met (Some (plus (AtMost a b c))) (Some (plus (AtMost d e f))) (plus (SameValue p
     int_eq c (pos 0) && (int_eq f (pos 0) && (value_same d b && (value_same e a && (value_same p a && value_same q b))))
 met _ _ _ = false
 
--- Sum: a bound that rows add up to
+-- Sum: a bound that one row or more add up to; without rows nothing runs from a value to another
+abbrev pub has_rows : List SumRow → Bool
+has_rows [] = false
+has_rows (row ∷ rows) = true
+
 unfoldable pub summed : List Step → List SumRow → Signed → Bool
-summed earlier rows (plus (AtMost a z c)) = adds_up earlier rows a (pos 0) z c
+summed earlier rows (plus (AtMost a z c)) = has_rows rows && adds_up earlier rows a (pos 0) z c
 summed earlier rows _ = false
 
 abbrev pub follows : Obligation → List Signed → List Step → By → Signed → Bool

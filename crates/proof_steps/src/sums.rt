@@ -9,7 +9,7 @@ ghost use Rattle.law_clauses.specs.Signed.{signed_of};
 ghost use Rattle.proof_steps.specs.Cited.{fact};
 ghost use Rattle.law_clauses.specs.Offsets.{offset};
 ghost use Rattle.proof_steps.specs.Sums.{bound, bound_of, bound_back, over, under, row_bound, in_range, goes_on, adds_up};
-ghost use Rattle.proof_steps.specs.Steps.{summed};
+ghost use Rattle.proof_steps.specs.Steps.{has_rows, summed};
 ghost use Rattle.proof_steps.specs.Rows.{side_of, bound_by, reached, next_reached};
 
 use crate::refutation::{Step, SumRow};
@@ -226,13 +226,24 @@ fn add_up(earlier: &[Step], rows: &[SumRow], a: &ValueTerm, z: &ValueTerm, c: i1
     same_side(here.side, Side::Term(z)) && here.sum <= c
 }
 
+// Whether there is a row at all.
+#[tactic(auto, using(crate::proofs::Summed::no_rows, crate::proofs::Summed::some_rows))]
+fn has_rows(rows: &[SumRow]) -> bool
+    ensures { result ≡ has_rows rows.now }
+{
+    if rows.len() == 0 {
+        return false;
+    }
+    true
+}
+
 // A bound that the rows add up to.
 #[tactic(auto, unfolding(crate::specs::Steps::summed))]
 pub fn is_summed(earlier: &[Step], rows: &[SumRow], x: &Literal) -> bool
     ensures { result ≡ summed earlier.now rows.now (signed_of x.now) }
 {
     match (x.sign, &x.atom) {
-        (true, Atom::AtMost(a, z, c)) => add_up(earlier, rows, a, z, *c),
+        (true, Atom::AtMost(a, z, c)) => has_rows(rows) && add_up(earlier, rows, a, z, *c),
         _ => false,
     }
 }
