@@ -1,12 +1,12 @@
 -- Each kind of step on the count keeps the rule: a load, and a rise.
-use Rattle.std.proofs.Common.{ℕ, ◌<◌, ◌≤◌, max, List, set, length, refl, inl, arith}
+use Rattle.std.proofs.Common.{ℕ, ◌<◌, ◌≤◌, max, List, set, length, refl, sym, inl, arith}
 use mathlib.Core.Option.{none}
 use Rattle.atomic_table.specs.Table.{step, keeps, Allows}
 use Rattle.claim_table.specs.declared.view.View.{View}
 use Rattle.claim_table.specs.Views.{after_load, after_publish}
 use Rattle.claim_table.specs.Rule.{count_of, Fits, Kept}
 use Rattle.claim_table.specs.Steps.{Place, LoadsCount, Publishes}
-use Rattle.claim_table.proofs.Words.{count_here, words_counted, counted_fits}
+use Rattle.claim_table.proofs.Words.{count_here, slots_stay, words_counted, counted_fits}
 use Rattle.claim_table.proofs.Moves.{moved, stayed}
 
 pub load_count : (slots room k : ℕ) (me : Place) → Allows (Kept slots) room k me 0 (λ n. n) (LoadsCount (step room 0 0 0 none) me)
@@ -25,7 +25,7 @@ load_count slots room k me s kept _ at _ =
     } in
     let room_left = kept.words.room in
     let slots_are = f.slots_are in
-    (w, keeps, tt, stayed slots s 0 k me.0 w me.1 kept at refl own (λ slot some. some) n refl, (refl, f.seen, omega arith))
+    (w, keeps, tt, stayed slots s 0 k me.0 w me.1 kept (record { at = at; made = refl; own = own; held = refl; finished = refl; seen = inl refl }) n refl, (refl, f.seen, omega arith))
 
 published_fits : (slots : ℕ) (words : List ℕ) (n k : ℕ) (v : View) → Fits slots words k v → 0 < length words → count_of words ≤ n
     → Fits slots (set words 0 n) k (after_publish n v)
@@ -54,9 +54,15 @@ publish slots room k count me fits s kept _ at _ =
       w,
       keeps,
       tt,
-      moved slots s (set s.words 0 (max n count)) k me.0 w kept at (words_counted slots s.words (max n count) kept.words more (omega arith)) refl
-          (published_fits slots s.words (max n count) k me.0 f some_words more)
-          (λ j u _ there. counted_fits slots s.words (max n count) j u (kept.fits j u there) some_words more)
-          (λ i some. inl some),
+      moved slots s (set s.words 0 (max n count)) k me.0 w kept (record {
+        at = at;
+        are = words_counted slots s.words (max n count) kept.words more (omega arith);
+        made = refl;
+        own = published_fits slots s.words (max n count) k me.0 f some_words more;
+        others = λ j u _ there. counted_fits slots s.words (max n count) j u (kept.fits j u there) some_words more;
+        finished = λ slot done. inl done;
+        owned = λ slot _. inl (slots_stay s.words (max n count) slot, (λ held. held), λ done. done);
+        count_seen = inl (sym (count_here s.words (max n count) some_words))
+      }),
       (refl, seen, omega arith),
     )

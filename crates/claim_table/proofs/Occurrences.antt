@@ -1,5 +1,5 @@
 -- How often a slot stands on a list after a push, and after it is taken off.
-use Rattle.std.proofs.Common.{◌≡◌, ◌≢◌, ◌⊎◌, ℕ, ◌+◌, ◌<◌, ◌≤◌, Bool, true, false, cond, ◌==◌, List, [], ◌∷◌, ◌++◌, refl, ap, sym, ◌∙◌, inl, inr, arith, eq-eqb, ne_eqb}
+use Rattle.std.proofs.Common.{◌≡◌, ◌≢◌, ◌⊎◌, ℕ, ◌+◌, ◌<◌, ◌≤◌, Bool, true, false, cond, ◌==◌, List, [], ◌∷◌, ◌++◌, refl, ap, sym, ◌∙◌, inl, inr, arith, eqb-true, eq-eqb, ne_eqb}
 use mathlib.Core.Logic.{dite}
 use native.Mathlib.Decide.{ℕ_discrete}
 use Rattle.claim_table.specs.Occurrences.{hit, times, without}
@@ -60,3 +60,12 @@ without_push_case slot x xs ys false e none same = ap (λ (zs : List ℕ). x ∷
 pub without-push : (slot : ℕ) (xs : List ℕ) → times slot xs ≡ 0 → without slot (xs ++ slot ∷ []) ≡ xs
 without-push slot [] none = ap (λ (b : Bool). cond b [] (slot ∷ [])) (eq-eqb slot slot refl)
 without-push slot (x ∷ xs) none = without_push_case slot x xs (xs ++ slot ∷ []) (x == slot) refl none (without-push slot xs (omega arith))
+
+without_else_case : (x slot y : ℕ) (xs : List ℕ) (b : Bool) → (y == x) ≡ b → slot ≢ x → times slot (without x xs) ≡ times slot xs → times slot (cond b (without x xs) (y ∷ without x xs)) ≡ hit (y == slot) + times slot xs
+without_else_case x slot y xs true e ne same = let other : hit (y == slot) ≡ 0 = hit_other y slot (λ here. ne (sym here ∙ eqb-true y x e)) in omega arith
+without_else_case x slot y xs false e ne same = omega arith
+
+-- what is taken off leaves another slot as often on the list
+pub times-without_else : (x slot : ℕ) (xs : List ℕ) → slot ≢ x → times slot (without x xs) ≡ times slot xs
+times-without_else x slot [] ne = refl
+times-without_else x slot (y ∷ xs) ne = without_else_case x slot y xs (y == x) refl ne (times-without_else x slot xs ne)

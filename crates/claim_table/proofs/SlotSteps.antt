@@ -1,5 +1,5 @@
 -- Each kind of step on the word of a slot keeps the rule: a look, a claim, a finish, and a swap to free.
-use Rattle.std.proofs.Common.{◌≡◌, ◌≢◌, ℕ, ◌+◌, ◌-◌, ◌<◌, ◌≤◌, ◌==◌, Bool, MatchBool, List, set, refl, ap, sym, ◌∙◌, subst, inl, inr, ⊎_elim, arith, eq-eqb, ne_eqb}
+use Rattle.std.proofs.Common.{◌≡◌, ◌≢◌, ℕ, ◌+◌, ◌-◌, ◌<◌, ◌≤◌, ◌==◌, Bool, MatchBool, List, set, length, refl, ap, sym, ◌∙◌, subst, inl, inr, ⊎_elim, arith, eq-eqb, ne_eqb}
 use mathlib.Core.Logic.{dite}
 use mathlib.Core.Option.{none}
 use native.Mathlib.Decide.{ℕ_discrete}
@@ -7,12 +7,12 @@ use prog.Atomic.{either}
 use Rattle.atomic_table.specs.Table.{step, keeps, Allows}
 use Rattle.claim_table.specs.declared.view.View.{View}
 use Rattle.claim_table.specs.Occurrences.{times, without}
-use Rattle.claim_table.specs.Views.{after_look, after_claim, after_finish, after_free}
+use Rattle.claim_table.specs.Views.{Holds, HasFinished, after_look, after_claim, after_finish, after_free}
 use Rattle.claim_table.specs.Rule.{Moment, Knows, count_of, slot_word, AreWords, Fits, Kept}
 use Rattle.claim_table.specs.Steps.{Place, LooksAt, Claims, Finishes, Frees}
-use Rattle.claim_table.proofs.Occurrences.{pushed, once_pushed, times-without_same, times-without_le}
+use Rattle.claim_table.proofs.Occurrences.{pushed, once_pushed, times-push_same, times-push_le, times-without_same, times-without_else, times-without_le}
 use Rattle.claim_table.proofs.Words.{count_stays, slot_here, slot_else, words_after, other_fits}
-use Rattle.claim_table.proofs.Moves.{NoneFinished, changed, moved, stayed}
+use Rattle.claim_table.proofs.Moves.{NoneFinished, changed, Stay, moved, stayed}
 
 -- a chair that has looked at a slot knows nothing more
 pub looked_fits : (slots : ℕ) (words : List ℕ) (k slot : ℕ) (v : View) → Fits slots words k v → Fits slots words k (after_look slot v)
@@ -26,6 +26,12 @@ looked_fits slots words k slot v f = record {
   finished_once = f.finished_once;
 }
 
+stays_known : (slots : ℕ) (s : Moment) (k : ℕ) (v : View) → Knows s k v → Fits slots s.words k v → Stay slots s k v v
+stays_known slots s k v at f = record { at = at; made = refl; own = f; held = refl; finished = refl; seen = inr refl }
+
+stays_looked : (slots : ℕ) (s : Moment) (k slot : ℕ) (v : View) → Knows s k v → Fits slots s.words k v → Stay slots s k v (after_look slot v)
+stays_looked slots s k slot v at f = record { at = at; made = refl; own = looked_fits slots s.words k slot v f; held = refl; finished = refl; seen = inr refl }
+
 pub look : (slots room k slot : ℕ) (me : Place) → Allows (Kept slots) room k me (slot + 1) (λ n. n) (LooksAt (step room (slot + 1) 0 0 none) me)
 look slots room k slot me s kept _ at _ =
     let n : ℕ = slot_word s.words slot in
@@ -36,14 +42,14 @@ look slots room k slot me s kept _ at _ =
       me.0,
       keeps,
       tt,
-      stayed slots s (slot + 1) k me.0 me.0 me.1 kept at refl f (λ i some. some) n refl,
+      stayed slots s (slot + 1) k me.0 me.0 me.1 kept (stays_known slots s k me.0 at f) n refl,
       subst (λ (b : Bool). MatchBool b (◌≡◌ {A = Place} (me.0, me.1) me) (◌≡◌ {A = Place} (me.0, me.1) (w, me.1))) (sym (eq-eqb n 0 e)) refl,
     ))
     (λ ne. (
       w,
       keeps,
       tt,
-      stayed slots s (slot + 1) k me.0 w me.1 kept at refl (looked_fits slots s.words k (slot + 1 - 1) me.0 f) (λ i some. some) n refl,
+      stayed slots s (slot + 1) k me.0 w me.1 kept (stays_looked slots s k (slot + 1 - 1) me.0 at f) n refl,
       subst (λ (b : Bool). MatchBool b (◌≡◌ {A = Place} (w, me.1) me) (◌≡◌ {A = Place} (w, me.1) (w, me.1))) (sym (ne_eqb n 0 ne)) refl,
     ))
 
@@ -84,6 +90,9 @@ claims_at slots room k slot p me same lt s kept _ at _ =
     let l : View = after_look p me.0 in
     let seen = f.seen in
     let below : slot < count_of s.words = omega arith in
+    let long = kept.words.length_is in
+    let room_left = kept.words.room in
+    let in_range : slot + 1 < length s.words = omega arith in
     dite (ℕ_discrete n 0)
     (λ free.
     let own : Fits slots (set s.words (slot + 1) (k + 2)) k c = subst (λ (z : ℕ). Fits slots (set s.words (slot + 1) (k + 2)) k (after_claim z me.0)) same (claimed_fits slots s.words k slot me.0 kept.words f free below) in (
@@ -91,9 +100,21 @@ claims_at slots room k slot p me same lt s kept _ at _ =
       keeps,
       tt,
       subst (λ (b : Bool). Kept slots (changed s (set s.words (slot + 1) (either b (k + 2) n)) k c)) (sym (eq-eqb n 0 free))
-          (moved slots s (set s.words (slot + 1) (k + 2)) k me.0 c kept at (words_after slots s.words slot (k + 2) kept.words below) refl own
-          (λ j u _ there. other_fits slots s.words slot (k + 2) j u (kept.fits j u there) (λ e. omega arith) (λ e. omega arith))
-          (λ i some. inl some)),
+          (moved slots s (set s.words (slot + 1) (k + 2)) k me.0 c kept (record {
+            at = at;
+            are = words_after slots s.words slot (k + 2) kept.words below;
+            made = refl;
+            own = own;
+            others = λ j u _ there. other_fits slots s.words slot (k + 2) j u (kept.fits j u there) (λ e. omega arith) (λ e. omega arith);
+            finished = λ i done. inl done;
+            owned = λ i _. dite (ℕ_discrete i slot)
+                (λ e. inr (inl (
+                  ap (slot_word (set s.words (slot + 1) (k + 2))) e ∙ slot_here s.words slot (k + 2) in_range,
+                  subst (λ (z : ℕ). Holds c z) (sym (e ∙ same)) (let more = times-push_same p me.0.held in omega arith),
+                )))
+                (λ ne. inl (slot_else s.words slot (k + 2) i ne, (λ held. let more = times-push_le p i me.0.held in omega arith), λ done. done));
+            count_seen = inr (refl, sym (count_stays s.words slot (k + 2)))
+          })),
       subst (λ (b : Bool). MatchBool b ((◌≡◌ {A = Place} (c, me.1) (c, me.1)) × (times p me.0.held ≡ 0)) (◌≡◌ {A = Place} (c, me.1) (l, me.1))) (sym (eq-eqb n 0 free))
           (refl, subst (λ (z : ℕ). times z me.0.held ≡ 0) same (free_not_held slots s.words k slot me.0 f free)),
     ))
@@ -101,7 +122,7 @@ claims_at slots room k slot p me same lt s kept _ at _ =
       l,
       keeps,
       tt,
-      stayed slots s (slot + 1) k me.0 l me.1 kept at refl (looked_fits slots s.words k p me.0 f) (λ i some. some) (either (n == 0) (k + 2) n) (ap (λ (b : Bool). either b (k + 2) n) (ne_eqb n 0 taken)),
+      stayed slots s (slot + 1) k me.0 l me.1 kept (stays_looked slots s k p me.0 at f) (either (n == 0) (k + 2) n) (ap (λ (b : Bool). either b (k + 2) n) (ne_eqb n 0 taken)),
       subst (λ (b : Bool). MatchBool b ((◌≡◌ {A = Place} (l, me.1) (c, me.1)) × (times p me.0.held ≡ 0)) (◌≡◌ {A = Place} (l, me.1) (l, me.1))) (sym (ne_eqb n 0 taken)) refl,
     ))
 
@@ -168,17 +189,35 @@ finishes_at slots room k slot p me same mine s kept _ at _ =
     let word = f.held slot mine in
     let number = f.number in
     let w : View = after_finish p me.0 in
-    let below = kept.words.published slot (omega arith) in (
+    let below = kept.words.published slot (omega arith) in
+    let long = kept.words.length_is in
+    let room_left = kept.words.room in
+    let in_range : slot + 1 < length s.words = omega arith in (
       w,
       keeps,
       tt,
-      moved slots s (set s.words (slot + 1) 1) k me.0 w kept at (words_after slots s.words slot 1 kept.words below) refl
-          (subst (λ (z : ℕ). Fits slots (set s.words (slot + 1) 1) k (after_finish z me.0)) same (finished_fits slots s.words k slot me.0 kept.words f mine))
-          (others_fit slots s k slot 1 kept word)
-          (λ i some. ⊎_elim
-          (λ e. inr (none_finished slots s i kept (λ done. let here : slot_word s.words i ≡ slot_word s.words slot = ap (slot_word s.words) (e ∙ sym same) in omega arith)))
-          (λ before. inl before)
-          (pushed p i me.0.finished some)),
+      moved slots s (set s.words (slot + 1) 1) k me.0 w kept (record {
+        at = at;
+        are = words_after slots s.words slot 1 kept.words below;
+        made = refl;
+        own = subst (λ (z : ℕ). Fits slots (set s.words (slot + 1) 1) k (after_finish z me.0)) same (finished_fits slots s.words k slot me.0 kept.words f mine);
+        others = others_fit slots s k slot 1 kept word;
+        finished = λ i done. ⊎_elim
+            (λ e. inr (none_finished slots s i kept (λ was_done. let here : slot_word s.words i ≡ slot_word s.words slot = ap (slot_word s.words) (e ∙ sym same) in omega arith)))
+            (λ before. inl before)
+            (pushed p i me.0.finished done);
+        owned = λ i _. dite (ℕ_discrete i slot)
+            (λ e. inr (inr (
+              ap (slot_word (set s.words (slot + 1) 1)) e ∙ slot_here s.words slot 1 in_range,
+              subst (λ (z : ℕ). HasFinished w z) (sym (e ∙ same)) (let more = times-push_same p me.0.finished in omega arith),
+            )))
+            (λ ne. inl (
+              slot_else s.words slot 1 i ne,
+              (λ held. let left = times-without_else p i me.0.held (λ e. ne (e ∙ sym same)) in omega arith),
+              λ done. let more = times-push_le p i me.0.finished in omega arith,
+            ));
+        count_seen = inr (refl, sym (count_stays s.words slot 1))
+      }),
       (omega arith, refl),
     )
 
@@ -193,14 +232,29 @@ frees_at slots room k slot p me same mine s kept _ at _ =
     let word = f.held slot mine in
     let number = f.number in
     let w : View = after_free p me.0 in
-    let below = kept.words.published slot (omega arith) in (
+    let below = kept.words.published slot (omega arith) in
+    let long = kept.words.length_is in
+    let room_left = kept.words.room in
+    let in_range : slot + 1 < length s.words = omega arith in (
       w,
       keeps,
       tt,
-      moved slots s (set s.words (slot + 1) 0) k me.0 w kept at (words_after slots s.words slot 0 kept.words below) refl
-          (subst (λ (z : ℕ). Fits slots (set s.words (slot + 1) 0) k (after_free z me.0)) same (freed_fits slots s.words k slot me.0 f mine))
-          (others_fit slots s k slot 0 kept word)
-          (λ i some. inl some),
+      moved slots s (set s.words (slot + 1) 0) k me.0 w kept (record {
+        at = at;
+        are = words_after slots s.words slot 0 kept.words below;
+        made = refl;
+        own = subst (λ (z : ℕ). Fits slots (set s.words (slot + 1) 0) k (after_free z me.0)) same (freed_fits slots s.words k slot me.0 f mine);
+        others = others_fit slots s k slot 0 kept word;
+        finished = λ i done. inl done;
+        owned = λ i taken. dite (ℕ_discrete i slot)
+            (λ e. let gone : slot_word (set s.words (slot + 1) 0) i ≡ 0 = ap (slot_word (set s.words (slot + 1) 0)) e ∙ slot_here s.words slot 0 in_range in absurd (omega arith))
+            (λ ne. inl (
+              slot_else s.words slot 0 i ne,
+              (λ held. let left = times-without_else p i me.0.held (λ e. ne (e ∙ sym same)) in omega arith),
+              λ done. done,
+            ));
+        count_seen = inr (refl, sym (count_stays s.words slot 0))
+      }),
       (omega arith, refl),
     )
 

@@ -1,6 +1,6 @@
 -- The rule of the table, which holds between any two steps.
 -- Word 0 is the count of the slots that are published. Word i + 1 is slot i: 0 is free, 1 is done, and h + 2 is held by chair h.
-use Rattle.std.specs.Prelude.{◌≡◌, ℕ, ◌+◌, ◌<◌, ◌≤◌, List, length, slice_index}
+use Rattle.std.specs.Prelude.{◌≡◌, ℕ, ◌+◌, ◌<◌, ◌≤◌, ◌⊎◌, List, length, slice_index}
 use mathlib.Core.Option.{some}
 use lib.ListN.{get_elem?}
 use Rattle.atomic_table.specs.Table.{State}
@@ -45,9 +45,24 @@ FinishedByOne s =
     (slot j k : ℕ) (v w : View) → Knows s j v → Knows s k w
     → HasFinished v slot → HasFinished w slot → j ≡ k
 
--- the rule: of the words, of how many chairs were made, which chair 0 knows, and of what each chair knows
+-- the slot's word names the chair, which holds it; or it is done, and the chair has finished it
+abbrev pub Owns : List ℕ → ℕ → View → ℕ → Type 0
+Owns words chair v slot =
+    ((slot_word words slot ≡ chair + 2) × Holds v slot) ⊎ ((slot_word words slot ≡ 1) × HasFinished v slot)
+
+-- some chair holds the slot, or has finished it
+abbrev pub IsOwned : Moment → ℕ → Type 0
+IsOwned s slot = (chair : ℕ) × (v : View) × Knows s chair v × Owns s.words chair v slot
+
+-- some chair has seen how many slots are published
+abbrev pub CountIsSeen : Moment → Type 0
+CountIsSeen s = (chair : ℕ) × (v : View) × Knows s chair v × (v.seen ≡ count_of s.words)
+
+-- the rule: of the words, of how many chairs were made, which chair 0 knows, and of what the chairs know
 pub record Kept (slots : ℕ) (s : Moment) : Type 0 where
   pub words : AreWords slots s.words
   pub made : (v : View) → Knows s 0 v → v.made ≡ length s.views
   pub fits : (chair : ℕ) (v : View) → Knows s chair v → Fits slots s.words chair v
   pub finished_by_one : FinishedByOne s
+  pub owned : (slot : ℕ) → 0 < slot_word s.words slot → IsOwned s slot
+  pub count_seen : CountIsSeen s
