@@ -62,7 +62,7 @@ publish slots room k count me fits s kept _ at _ =
         others = λ j u _ there. counted_fits slots s.words (max n count) j u (kept.fits j u there) some_words more;
         finished = λ slot done. inl done;
         owned = λ slot _. inl (slots_stay s.words (max n count) slot, (λ held. held), λ done. done);
-        count_seen = inl (sym (count_here s.words (max n count) some_words))
+        count_seen = inl (sym (count_here s.words (max n count) some_words));
       }),
       (refl, seen, omega arith),
     )

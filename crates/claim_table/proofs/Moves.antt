@@ -61,15 +61,15 @@ owned_after slots s words k v w kept step slot keeps_it owner =
     let u = owner.1 in
     dite (ℕ_discrete j k)
     (λ e.
-      let is : u ≡ v = one_view s j k u v owner.2 step.at e in (
-        k,
-        w,
-        known_now s k v w step.at,
-        ⊎_elim
+    let is : u ≡ v = one_view s j k u v owner.2 step.at e in (
+      k,
+      w,
+      known_now s k v w step.at,
+      ⊎_elim
           (λ held. inl (keeps_it.0 ∙ (held.0 ∙ ap (λ (n : ℕ). n + 2) e), keeps_it.1 (subst (λ (z : View). Holds z slot) is held.1)))
           (λ done. inr (keeps_it.0 ∙ done.0, keeps_it.2 (subst (λ (z : View). HasFinished z slot) is done.1)))
           owner.3,
-      ))
+    ))
     (λ ne. (
       j,
       u,
@@ -104,13 +104,13 @@ moved slots s words k v w kept step = record {
       (at_set s.views k j w u e);
   finished_by_one = λ slot i j u x iu jx pu px. ⊎_elim
       (λ a. ⊎_elim
-          (λ b. a.0 ∙ sym b.0)
-          (λ b. a.0 ∙ one_owner slots s words k v w kept step slot j x b.1 px (subst (λ (z : View). HasFinished z slot) (sym a.1) pu))
-          (at_set s.views k j w x jx))
+      (λ b. a.0 ∙ sym b.0)
+      (λ b. a.0 ∙ one_owner slots s words k v w kept step slot j x b.1 px (subst (λ (z : View). HasFinished z slot) (sym a.1) pu))
+      (at_set s.views k j w x jx))
       (λ a. ⊎_elim
-          (λ b. sym (b.0 ∙ one_owner slots s words k v w kept step slot i u a.1 pu (subst (λ (z : View). HasFinished z slot) (sym b.1) px)))
-          (λ b. kept.finished_by_one slot i j u x a.1 b.1 pu px)
-          (at_set s.views k j w x jx))
+      (λ b. sym (b.0 ∙ one_owner slots s words k v w kept step slot i u a.1 pu (subst (λ (z : View). HasFinished z slot) (sym b.1) px)))
+      (λ b. kept.finished_by_one slot i j u x a.1 b.1 pu px)
+      (at_set s.views k j w x jx))
       (at_set s.views k i w u iu);
   owned = λ slot some_word. ⊎_elim
       (λ same. owned_after slots s words k v w kept step slot same (kept.owned slot (subst (λ (n : ℕ). 0 < n) same.0 some_word)))
@@ -135,13 +135,13 @@ pub stayed : (slots : ℕ) (s : Moment) (word k : ℕ) (v w : View) (carried : L
     → (n : ℕ) → n ≡ get_or s.words word 0 → Kept slots (stepped s word n k carried w keeps)
 stayed slots s word k v w carried kept stay n is =
     subst (λ (words : List ℕ). Kept slots (changed s words k w)) (sym (ap (set s.words word) is ∙ set-get_or s.words word 0))
-      (moved slots s s.words k v w kept (record {
-        at = stay.at;
-        are = kept.words;
-        made = stay.made;
-        own = stay.own;
-        others = λ j u _ there. kept.fits j u there;
-        finished = λ slot done. inl (subst (λ (xs : List ℕ). 0 < times slot xs) stay.finished done);
-        owned = λ slot _. inl (refl, subst (λ (xs : List ℕ). 0 < times slot xs) (sym stay.held), subst (λ (xs : List ℕ). 0 < times slot xs) (sym stay.finished));
-        count_seen = ⊎_elim (λ now. inl now) (λ same. inr (same, refl)) stay.seen
-      }))
+    (moved slots s s.words k v w kept (record {
+      at = stay.at;
+      are = kept.words;
+      made = stay.made;
+      own = stay.own;
+      others = λ j u _ there. kept.fits j u there;
+      finished = λ slot done. inl (subst (λ (xs : List ℕ). 0 < times slot xs) stay.finished done);
+      owned = λ slot _. inl (refl, subst (λ (xs : List ℕ). 0 < times slot xs) (sym stay.held), subst (λ (xs : List ℕ). 0 < times slot xs) (sym stay.finished));
+      count_seen = ⊎_elim (λ now. inl now) (λ same. inr (same, refl)) stay.seen;
+    }))

@@ -104,13 +104,13 @@ stands : (s : Moment) (k : ℕ) (v : View) (j : ℕ) (u : View) → Knows s k v 
     → (w : View) × (get_elem? (set s.views k (after_split v) ++ new_view v ∷ []) j ≡ some w) × (w.held ≡ u.held) × (w.finished ≡ u.finished) × (w.seen ≡ u.seen)
 stands s k v j u at there = dite (ℕ_discrete j k)
     (λ e.
-      let is : v ≡ u = sym (one_view s j k u v there at e) in (
-        after_split v,
-        at_longer (set s.views k (after_split v)) (new_view v ∷ []) j (after_split v) (ap (get_elem? (set s.views k (after_split v))) e ∙ known_now s k v (after_split v) at),
-        ap (λ (z : View). z.held) is,
-        ap (λ (z : View). z.finished) is,
-        ap (λ (z : View). z.seen) is,
-      ))
+    let is : v ≡ u = sym (one_view s j k u v there at e) in (
+      after_split v,
+      at_longer (set s.views k (after_split v)) (new_view v ∷ []) j (after_split v) (ap (get_elem? (set s.views k (after_split v))) e ∙ known_now s k v (after_split v) at),
+      ap (λ (z : View). z.held) is,
+      ap (λ (z : View). z.finished) is,
+      ap (λ (z : View). z.seen) is,
+    ))
     (λ ne. (u, at_longer (set s.views k (after_split v)) (new_view v ∷ []) j u (set_else s.views k j (after_split v) ne ∙ there), refl, refl, refl))
 
 -- chair 0 may make one more
@@ -139,15 +139,15 @@ splits slots k v first s kept at =
           let a = finisher s k v at slot i u (comes s k v i u iu) pu in
           let b = finisher s k v at slot j x (comes s k v j x jx) px in
           kept.finished_by_one slot i j a.0 b.0 a.1 b.1 a.2 b.2;
-  owned = λ slot some_word.
-      let owner = kept.owned slot some_word in
-      let there = stands s k v owner.0 owner.1 at owner.2 in
-      (owner.0, there.0, there.1, ⊎_elim (λ held. inl (held.0, subst (λ (xs : List ℕ). 0 < times slot xs) (sym there.2) held.1)) (λ done. inr (done.0, subst (λ (xs : List ℕ). 0 < times slot xs) (sym there.3) done.1)) owner.3);
-  count_seen =
-      let seen = kept.count_seen in
-      let there = stands s k v seen.0 seen.1 at seen.2 in
-      (seen.0, there.0, there.1, there.4 ∙ seen.3);
-}
+      owned = λ slot some_word.
+          let owner = kept.owned slot some_word in
+          let there = stands s k v owner.0 owner.1 at owner.2 in
+          (owner.0, there.0, there.1, ⊎_elim (λ held. inl (held.0, subst (λ (xs : List ℕ). 0 < times slot xs) (sym there.2) held.1)) (λ done. inr (done.0, subst (λ (xs : List ℕ). 0 < times slot xs) (sym there.3) done.1)) owner.3);
+      count_seen =
+          let seen = kept.count_seen in
+          let there = stands s k v seen.0 seen.1 at seen.2 in
+          (seen.0, there.0, there.1, there.4 ∙ seen.3);
+    }
 
 -- words that are not 0 have a chair that is not empty
 pub starts-free : StartsFree
@@ -157,7 +157,7 @@ starts-free slots s kept empty = (
       let owner = kept.owned slot (omega arith) in
       let nothing = empty owner.0 owner.1 owner.2 in
       absurd (⊎_elim
-        (λ held. let none : times slot owner.1.held ≡ 0 = ap (times slot) nothing.held in let some_times = held.1 in omega arith)
-        (λ done. let none : times slot owner.1.finished ≡ 0 = ap (times slot) nothing.finished in let some_times = done.1 in omega arith)
-        owner.3)),
+      (λ held. let none : times slot owner.1.held ≡ 0 = ap (times slot) nothing.held in let some_times = held.1 in omega arith)
+      (λ done. let none : times slot owner.1.finished ≡ 0 = ap (times slot) nothing.finished in let some_times = done.1 in omega arith)
+      owner.3)),
 )

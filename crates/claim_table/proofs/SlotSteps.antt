@@ -113,7 +113,7 @@ claims_at slots room k slot p me same lt s kept _ at _ =
                   subst (λ (z : ℕ). Holds c z) (sym (e ∙ same)) (let more = times-push_same p me.0.held in omega arith),
                 )))
                 (λ ne. inl (slot_else s.words slot (k + 2) i ne, (λ held. let more = times-push_le p i me.0.held in omega arith), λ done. done));
-            count_seen = inr (refl, sym (count_stays s.words slot (k + 2)))
+            count_seen = inr (refl, sym (count_stays s.words slot (k + 2)));
           })),
       subst (λ (b : Bool). MatchBool b ((◌≡◌ {A = Place} (c, me.1) (c, me.1)) × (times p me.0.held ≡ 0)) (◌≡◌ {A = Place} (c, me.1) (l, me.1))) (sym (eq-eqb n 0 free))
           (refl, subst (λ (z : ℕ). times z me.0.held ≡ 0) same (free_not_held slots s.words k slot me.0 f free)),
@@ -216,7 +216,7 @@ finishes_at slots room k slot p me same mine s kept _ at _ =
               (λ held. let left = times-without_else p i me.0.held (λ e. ne (e ∙ sym same)) in omega arith),
               λ done. let more = times-push_le p i me.0.finished in omega arith,
             ));
-        count_seen = inr (refl, sym (count_stays s.words slot 1))
+        count_seen = inr (refl, sym (count_stays s.words slot 1));
       }),
       (omega arith, refl),
     )
@@ -253,7 +253,7 @@ frees_at slots room k slot p me same mine s kept _ at _ =
               (λ held. let left = times-without_else p i me.0.held (λ e. ne (e ∙ sym same)) in omega arith),
               λ done. done,
             ));
-        count_seen = inr (refl, sym (count_stays s.words slot 0))
+        count_seen = inr (refl, sym (count_stays s.words slot 0));
       }),
       (omega arith, refl),
     )

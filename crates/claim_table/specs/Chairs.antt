@@ -1,5 +1,5 @@
 -- What contracts see of a chair, and what they say of it.
-use Rattle.std.specs.Prelude.{◌≡◌, ℕ, ◌+◌, ◌-◌, ◌<◌, ◌≤◌, List, [], map, All}
+use Rattle.std.specs.Prelude.{◌≡◌, ℕ, ◌+◌, ◌-◌, ◌<◌, ◌≤◌, List, [], ◌∷◌, map, All}
 use Rattle.std.specs.List.{range_with_len}
 use Rattle.atomic_table.specs.Seated.{TableId}
 use Rattle.claim_table.specs.declared.view.View.{View}
@@ -65,3 +65,8 @@ pub record AreNew (table : TableId) (first n : ℕ) (chairs : List ChairView) : 
   pub tables : All (λ c. c.table ≡ table) chairs
   pub numbers : map (λ c. c.view.number) chairs ≡ range_with_len first n
   pub empty : All (λ c. IsEmpty c.view) chairs
+
+-- these are all n chairs that were made, as the first of them knows
+abbrev pub AreAll : ℕ → List ChairView → Type 0
+AreAll n [] = n ≡ 0
+AreAll n (c ∷ chairs) = c.view.made ≡ n

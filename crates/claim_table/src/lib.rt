@@ -1,5 +1,5 @@
 //! Claims without a lock: a table of slots, which chairs take, finish and free by single steps on words.
-//! No slot is held by two chairs, a finished slot stays finished, and none of the calls waits or takes memory.
+//! No slot is held by two chairs, a finished slot stays finished, and none of the four calls waits or takes memory.
 //! `specs/Rule.antt` is what holds between any two steps, `specs/Views.antt` what each step makes of a chair.
 #![tactic(auto)]
 

@@ -3,7 +3,7 @@
 
 ghost use Rattle.std.specs.Prelude.{◌≡◌, ◌<◌, ◌≤◌, IfOk};
 ghost use Rattle.claim_table.specs.Views.{first_view, after_split, new_view};
-ghost use Rattle.claim_table.specs.Chairs.{slot_count, AreNew};
+ghost use Rattle.claim_table.specs.Chairs.{slot_count, AreNew, AreAll};
 
 use crate::chair::Chair;
 use crate::no_memory::NoMemory;
@@ -32,13 +32,15 @@ impl Model for ClaimTable {
 }
 
 impl ClaimTable {
-    /// A table of 1 to 524,288 slots, all free and none published, and its 1 to 65 chairs, numbered from 0.
+    /// A table of 1 to 524,288 slots, all free and none published (`laws::starts_free`), and its 1 to 65 chairs,
+    /// numbered from 0, which know nothing yet. No chair is made later.
     /// `Err` comes only where memory runs out.
     pub fn new(alloc: Global, slots: u32, seats: u32) -> Result<(ClaimTable, Vec<Chair>), NoMemory>
         requires slots { (1 ≤ slots) × (slots ≤ 524288) }
         requires seats { (1 ≤ seats) × (seats ≤ 65) }
         ensures slots { IfOk result (λ made. slot_count made.0 ≡ slots) }
         ensures chairs { IfOk result (λ made. AreNew made.0 0 seats made.1.items) }
+        ensures all { IfOk result (λ made. AreAll seats made.1.items) }
     {
         let (table, first) = ClaimTable::with_one_chair(alloc, slots)?;
         let chairs = table.all_chairs(alloc, first, seats)?;
@@ -67,7 +69,8 @@ impl ClaimTable {
         requires seats { (1 ≤ seats) × (seats ≤ 65) }
         requires table { first.table ≡ self.now }
         requires first { first.view ≡ first_view (slot_count self.now) }
-        ensures { IfOk result (λ chairs. AreNew self.now 0 seats chairs.items) }
+        ensures chairs { IfOk result (λ chairs. AreNew self.now 0 seats chairs.items) }
+        ensures all { IfOk result (λ chairs. AreAll seats chairs.items) }
     {
         let mut chairs = Vec::new(alloc);
         for number in 1..seats {

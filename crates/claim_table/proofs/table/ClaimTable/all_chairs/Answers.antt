@@ -17,10 +17,15 @@ loop-number-preserved c =
       subst IsEmpty (sym c.split.ensures.first) (split-empty c.loop-number.first.view so_far.4),
     )
 
-pub returns : goal.returns
-returns c =
+pub returns-clause-chairs : goal.returns-clause-chairs
+returns-clause-chairs c =
     let so_far = c.loop-number.invariant in
     let some = c.loop-number.auto.number in
     let last : c.loop-number.number ≡ c.args.seats = omega (arith, c.loop-number-test.false, c.loop-number.auto.number-end c.requires.seats.0) in
     rw c.in_ok-insert.ensures.items
     (all-new _ _ _ _ _ some last so_far.0 so_far.1 so_far.2 so_far.4)
+
+pub returns-clause-all : goal.returns-clause-all
+returns-clause-all c =
+    let last : c.loop-number.number ≡ c.args.seats = omega (arith, c.loop-number-test.false, c.loop-number.auto.number-end c.requires.seats.0) in
+    rw c.in_ok-insert.ensures.items (c.loop-number.invariant.3 ∙ last)
