@@ -1,6 +1,8 @@
 pub mod Counting
 pub mod Determined
+pub mod InOrder
 pub mod Listing
+pub mod Merging
 pub mod Stores
 pub mod Values
 pub mod Variables

@@ -42,7 +42,7 @@ pub made_of_none : (es : List (Place × ℤ)) → es ≡ [] → store_of es ≡ 
 unfolding store_of
 made_of_none es e = ap store_of e
 
-read_empty : (c : Cell) → read empty_store c ≡ pos 0
+pub read_empty : (c : Cell) → read empty_store c ≡ pos 0
 unfolding read empty_store
 read_empty c = ap held (map.get-empty cell_cmp c)
 

@@ -3,6 +3,7 @@
 //! number leaves 128 bits.
 #![tactic(auto)]
 
+mod ascending;
 mod cell;
 mod evaluate;
 pub mod laws;
@@ -10,6 +11,7 @@ mod memory;
 mod place;
 mod ran;
 mod run;
+mod scattered;
 mod step;
 mod work;
 

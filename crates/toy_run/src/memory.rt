@@ -1,46 +1,47 @@
-//! The store of a run: variables by their names, and the cells with indices that are not 0 by their places.
-//! `specs/Stored.antt` says which store its entries make.
+//! The store of a run: cells with indices that were written in order stand in a list, and all others in maps.
+//! `specs/Memory.antt` says which store that is.
 
-ghost use Rattle.std.specs.Prelude.{◌≡◌, ◌≢◌, pos, Some, OnOk, IfOk, [], None};
-ghost use Rattle.std.specs.BTreeMap as tree;
+ghost use Rattle.std.specs.Prelude.{◌≡◌, ◌≢◌, OnOk, IfOk, []};
+ghost use Rattle.std.specs.List.{All};
+ghost use Rattle.std.specs.List.Sorted.{IsStrictlySortedBy, IsStrictlySortedBy-prop};
 ghost use Rattle.toy_imp.specs.Store.{read, write};
-ghost use Rattle.toy_run.specs.Place.{cell_of, place_cmp};
-ghost use Rattle.toy_run.specs.Stored.{empty_store, store_of, store_by};
-ghost use Rattle.toy_run.specs.Cells.{AreCells};
-ghost use Rattle.toy_run.specs.declared.place.Place.{Place};
+ghost use Rattle.toy_run.specs.Place.{cell_of};
+ghost use Rattle.toy_run.specs.Stored.{empty_store, with_cells, store_by};
+ghost use Rattle.toy_run.specs.Cells.{AreCells, cell_order, has_indices};
 
+use crate::ascending::{find, is_behind, merged, no_zero};
 use crate::cell::Cell;
-use crate::place::Place;
+use crate::place::{Place, placed};
+use crate::scattered::Scattered;
 use sqlite_items::Items;
 use std::alloc::Global;
-use std::collections::BTreeMap;
 use toy_imp::NoMemory;
 
-/// What variables and cells hold; a cell without an entry holds 0.
+/// What the cells of a store hold.
 #[derive(Drop)]
 pub struct Memory<'a> {
-    /// What variables hold, by name; it may be 0.
-    pub variables: BTreeMap<&'a [u8], i128>,
-    /// The cells with indices that are not 0.
-    pub cells: BTreeMap<Place<'a>, i128>,
-    ghost no_zero: { (p : Place) → tree.get place_cmp cells p ≢ Some (pos 0) },
-    ghost no_variable: { (p : Place) → p.indices ≡ [] → tree.get place_cmp cells p ≡ None },
+    /// Cells with indices, each behind those before it, with what they hold; that may be 0.
+    pub ascending: Items<Cell>,
+    /// What all other cells hold.
+    pub rest: Scattered<'a>,
+    ghost in_order: { IsStrictlySortedBy cell_order ascending } by { IsStrictlySortedBy-prop cell_order ascending },
+    ghost indexed: { All has_indices ascending },
 }
 
 impl<'a> Memory<'a> {
     /// The store in which every cell holds 0.
     pub fn new(alloc: Global) -> Memory<'a>
-        ensures { store_by result.variables.entries result.cells.entries ≡ empty_store }
+        ensures { with_cells result.ascending (store_by result.rest.variables.entries result.rest.cells.entries) ≡ empty_store }
     {
         Memory {
-            variables: BTreeMap::new(alloc),
-            cells: BTreeMap::new(alloc),
+            ascending: Items::new(alloc),
+            rest: Scattered::new(alloc),
         }
     }
 
     /// What the place holds.
     pub fn read(&self, place: &Place<'a>) -> i128
-        ensures { result ≡ read (store_by self.now.variables.entries self.now.cells.entries) (cell_of place.now) }
+        ensures { result ≡ read (with_cells self.now.ascending (store_by self.now.rest.variables.entries self.now.rest.cells.entries)) (cell_of place.now) }
     {
         if place.indices.is_empty() {
             self.variable(place.name)
@@ -51,97 +52,68 @@ impl<'a> Memory<'a> {
 
     /// What the variable of the name holds.
     pub fn variable(&self, name: &'a [u8]) -> i128
-        ensures { result ≡ read (store_by self.now.variables.entries self.now.cells.entries) (name.now, []) }
+        ensures { result ≡ read (with_cells self.now.ascending (store_by self.now.rest.variables.entries self.now.rest.cells.entries)) (name.now, []) }
     {
-        match self.variables.get(&name) {
-            Some(value) => *value,
-            None => 0,
-        }
+        self.rest.variable(name)
     }
 
+    // What a place with indices holds.
     fn cell(&self, place: &Place<'a>) -> i128
         requires { place.now.indices ≢ [] }
-        ensures { result ≡ read (store_by self.now.variables.entries self.now.cells.entries) (cell_of place.now) }
+        ensures { result ≡ read (with_cells self.now.ascending (store_by self.now.rest.variables.entries self.now.rest.cells.entries)) (cell_of place.now) }
     {
-        match self.cells.get(place) {
-            Some(value) => *value,
-            None => 0,
+        let cells = self.ascending.as_slice();
+        match find(cells, place) {
+            Some(at) => cells[at].value,
+            None => self.rest.cell(place),
         }
     }
 
     /// Lets the place hold a value.
-    pub fn write(&mut self, place: Place<'a>, value: i128) -> Result<(), NoMemory>
-        ensures { OnOk result (store_by self.new.variables.entries self.new.cells.entries ≡ write (store_by self.old.variables.entries self.old.cells.entries) (cell_of place.entry) value) }
+    pub fn write(&mut self, alloc: Global, place: Place<'a>, value: i128) -> Result<(), NoMemory>
+        ensures { OnOk result (with_cells self.new.ascending (store_by self.new.rest.variables.entries self.new.rest.cells.entries) ≡ write (with_cells self.old.ascending (store_by self.old.rest.variables.entries self.old.rest.cells.entries)) (cell_of place.entry) value) }
     {
         if place.indices.is_empty() {
-            self.set_variable(place.name, value)?;
-        } else if value == 0 {
-            self.cells.remove(&place);
+            self.set_variable(place.name, value)
         } else {
-            self.cells.insert(place, value)?;
+            self.set_cell(alloc, place, value)
         }
-        Ok(())
     }
 
     /// Lets the variable of the name hold a value.
     pub fn set_variable(&mut self, name: &'a [u8], value: i128) -> Result<(), NoMemory>
-        ensures { OnOk result (store_by self.new.variables.entries self.new.cells.entries ≡ write (store_by self.old.variables.entries self.old.cells.entries) (name.now, []) value) }
+        ensures { OnOk result (with_cells self.new.ascending (store_by self.new.rest.variables.entries self.new.rest.cells.entries) ≡ write (with_cells self.old.ascending (store_by self.old.rest.variables.entries self.old.rest.cells.entries)) (name.now, []) value) }
     {
-        self.variables.insert(name, value)?;
-        Ok(())
+        self.rest.set_variable(name, value)
+    }
+
+    // Lets a place with indices hold a value.
+    fn set_cell(&mut self, alloc: Global, place: Place<'a>, value: i128) -> Result<(), NoMemory>
+        requires { place.indices ≢ [] }
+        ensures { OnOk result (with_cells self.new.ascending (store_by self.new.rest.variables.entries self.new.rest.cells.entries) ≡ write (with_cells self.old.ascending (store_by self.old.rest.variables.entries self.old.rest.cells.entries)) (cell_of place.entry) value) }
+    {
+        if is_behind(self.ascending.as_slice(), &place) {
+            self.ascending.push(placed(alloc, place, value)?)?;
+            return Ok(());
+        }
+        match find(self.ascending.as_slice(), &place) {
+            Some(at) => {
+                self.ascending.set(at, placed(alloc, place, value)?);
+                Ok(())
+            }
+            None => self.rest.set_cell(place, value),
+        }
     }
 
     /// The cells that are not 0, in order.
     pub fn into_cells(self, alloc: Global) -> Result<Items<Cell>, NoMemory>
-        ensures { IfOk result (λ cells. AreCells (store_by self.entry.variables.entries self.entry.cells.entries) cells) }
+        ensures { IfOk result (λ cells. AreCells (with_cells self.entry.ascending (store_by self.entry.rest.variables.entries self.entry.rest.cells.entries)) cells) }
     {
-        let Memory {
-            mut variables,
-            mut cells,
-        } = self;
-        while let Some((name, value)) = variables.pop_last() {
-            let place = Place {
-                name,
-                indices: Items::new(alloc),
-            };
-            put(&mut cells, place, value)?;
+        let Memory { ascending, rest } = self;
+        let rest = rest.into_cells(alloc)?;
+        if rest.is_empty() && no_zero(ascending.as_slice()) {
+            return Ok(ascending);
         }
-        listed(alloc, cells)
+        merged(alloc, ascending.as_slice(), rest.as_slice())
     }
-}
-
-// Lets the place hold a value; 0 takes its entry away.
-fn put<'a>(
-    cells: &mut BTreeMap<Place<'a>, i128>,
-    place: Place<'a>,
-    value: i128,
-) -> Result<(), NoMemory>
-    requires { (p : Place) → tree.get place_cmp cells.old p ≢ Some (pos 0) }
-    ensures stored { OnOk result (store_of cells.new.entries ≡ write (store_of cells.old.entries) (cell_of place.entry) value) }
-    ensures no_zero { OnOk result ((p : Place) → tree.get place_cmp cells.new p ≢ Some (pos 0)) }
-{
-    if value == 0 {
-        cells.remove(&place);
-    } else {
-        cells.insert(place, value)?;
-    }
-    Ok(())
-}
-
-// The cells of the entries, in order.
-fn listed<'a>(alloc: Global, cells: BTreeMap<Place<'a>, i128>) -> Result<Items<Cell>, NoMemory>
-    requires { (p : Place) → tree.get place_cmp cells p ≢ Some (pos 0) }
-    ensures { IfOk result (λ all. AreCells (store_of cells.entry.entries) all) }
-{
-    let mut all = Items::new(alloc);
-    for (place, value) in cells {
-        let Place { name, indices } = place;
-        let name = Items::from_slice(alloc, name)?;
-        all.push(Cell {
-            name,
-            indices,
-            value,
-        })?;
-    }
-    Ok(all)
 }

@@ -1,7 +1,7 @@
 //! A cell of a store as a key: a name and indices.
 //! Places are in the order in which a run lists its cells, by `specs/Place.antt`.
 
-ghost use Rattle.std.specs.Prelude.{◌≡◌, Some, length, refl};
+ghost use Rattle.std.specs.Prelude.{◌≡◌, Some, IfOk, length, refl};
 ghost use Rattle.std.specs.Cmp;
 ghost use Rattle.std.specs.Cmp.Rules.{comparing};
 ghost use Rattle.std.specs.Cmp.Lexicographic.{slice_cmp};
@@ -9,10 +9,14 @@ ghost use Rattle.std.specs.Ordering.{eq_by_cmp, nat_cmp, int_cmp, ordering_then}
 ghost use Rattle.std.proofs.Common.{rules};
 ghost use Rattle.std.proofs.lemmas.Cmp.{eq_by_cmp_equiv};
 ghost use Rattle.std.specs.Cmp.{partial_order_from_agreeing_total};
-ghost use Rattle.toy_run.specs.Place.{place_cmp, place_total};
+ghost use Rattle.toy_run.specs.Cells.{key_of};
+ghost use Rattle.toy_run.specs.Place.{cell_of, listed_cmp, place_cmp, place_total};
 
+use crate::cell::Cell;
 use sqlite_items::Items;
+use std::alloc::Global;
 use std::cmp::Ordering;
+use toy_imp::NoMemory;
 
 /// A name's bytes, which the program holds, and indices.
 #[derive(Drop)]
@@ -60,6 +64,29 @@ impl<'a> Ord for Place<'a> {
             unequal => unequal,
         }
     }
+}
+
+/// How a cell compares to a place.
+pub fn compare(cell: &Cell, place: &Place) -> Ordering
+    ensures { result ≡ listed_cmp (key_of cell.now) (cell_of place.now) }
+{
+    match cell.name.as_slice().cmp(place.name) {
+        Ordering::Equal => compare_indices(cell.indices.as_slice(), place.indices.as_slice()),
+        unequal => unequal,
+    }
+}
+
+/// A cell at a place, with what it holds.
+pub fn placed(alloc: Global, place: Place, value: i128) -> Result<Cell, NoMemory>
+    ensures { IfOk result (λ c. (key_of c ≡ cell_of place.entry) × (c.value ≡ value)) }
+{
+    let Place { name, indices } = place;
+    let name = Items::from_slice(alloc, name)?;
+    Ok(Cell {
+        name,
+        indices,
+        value,
+    })
 }
 
 // By the number of the indices, then by the indices.

@@ -47,7 +47,7 @@ pub fn do_put<'a>(
     let Some(value) = evaluate(alloc, e, memory)? else {
         return Ok(Width::Wide);
     };
-    memory.write(place(x, indices), value)?;
+    memory.write(alloc, place(x, indices), value)?;
     Ok(Width::Narrow)
 }
 

@@ -1,25 +1,22 @@
-use Rattle.std.proofs.Common.{◌≡◌, ◌∙◌, ap₂, subst, arith, rules, true, false, IfOk, FitsSigned, to_z, of_z}
-use Rattle.std.specs.Int.{w128}
-use Rattle.std.proofs.lemmas.Int.{ints}
-use Rattle.toy_imp.specs.Store.{write}
-use Rattle.toy_run.specs.Cells.{AreCells}
-use Rattle.toy_run.specs.Stored.{store_of, store_by}
-use Rattle.toy_run.proofs.Variables.{last_moves, none_left}
+use Rattle.std.proofs.Common.{◌≡◌, subst, All, Result, Ok, Err, IfOk, []}
+use Rattle.toy_imp.specs.Store.{Store}
+use Rattle.toy_run.specs.declared.cell.Cell.{Cell}
+use Rattle.std.specs.Prelude.{List}
+use Rattle.toy_run.specs.Cells.{AreCells, is_not_zero}
+use Rattle.toy_run.specs.Stored.{empty_store, with_cells}
+use Rattle.toy_run.proofs.Merging.{all_in_order, both_listed}
 use Rattle.toy_run.proofs.memory.Memory.into_cells.Goals as goal
 
-pub loop-name-preserved : goal.loop-name-preserved
-loop-name-preserved c =
-    let fits : FitsSigned w128 c.in-Some.value = search rules in
-    let back : to_z w128 (of_z w128 c.in-Some.value) ≡ c.in-Some.value = omega (arith, ints, fits) in (
-      last_moves c.loop-name.variables.entries c.pop_last.new.self.entries c.in-Some.name c.in-Some.value c.loop-name.cells.entries c.put.new.cells.entries
-          (store_by c.args.self.variables.entries c.args.self.cells.entries) c.loop-name.invariant.0 c.in-Some.ensures.removal
-          (c.in_ok-put.ensures.stored ∙ ap₂ (λ l z. write (store_of c.loop-name.cells.entries) (c.in-Some.name.now, l) z) c.new.ensures back),
-      c.in_ok-put.ensures.no_zero,
-    )
+pub returns-then-no_zero : goal.returns-then-no_zero
+returns-then-no_zero c =
+    let nonzero : All is_not_zero c.args.self.ascending = subst (All is_not_zero) c.as_slice.ensures (c.no_zero.ensures c.if-no_zero.true) in
+    all_in_order c.args.self.ascending _ _ c.in_ok-rest.ensures (c.is_empty.ensures.0 c.if-is_empty.true) c.args.self.in_order nonzero
+
+listed : {B : Type 0} (r : Result (List Cell) B) (xs cs ys os : List Cell) (s : Store) → xs ≡ cs → os ≡ ys → AreCells s ys → IfOk r (λ all. AreCells (with_cells xs (with_cells os empty_store)) all)
+    → IfOk r (λ all. AreCells (with_cells cs s) all)
+listed (Ok all) xs cs ys os s e f are h =
+    both_listed cs ys all s are (subst (λ l. AreCells (with_cells cs (with_cells l empty_store)) all) f (subst (λ l. AreCells (with_cells l (with_cells os empty_store)) all) e h))
+listed (Err b) xs cs ys os s e f are h = h
 
 pub returns : goal.returns
-returns c =
-    subst (λ t. IfOk c.listed.result (λ cells. AreCells t cells))
-    (none_left c.loop-name.variables.entries c.loop-name.cells.entries (store_by c.args.self.variables.entries c.args.self.cells.entries)
-    (λ h. let clash : false ≡ true = c.in_default.ensures.variant.1 h in cc) c.loop-name.invariant.0)
-    c.listed.ensures
+returns c = listed c.merged.result _ _ _ _ _ c.as_slice-2.ensures c.as_slice-3.ensures c.in_ok-rest.ensures c.merged.ensures

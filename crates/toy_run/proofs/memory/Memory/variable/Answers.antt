@@ -1,17 +1,14 @@
-use Rattle.std.proofs.Common.{◌≡◌, sym, ◌∙◌, ap, arith, rules, [], FitsSigned}
+use Rattle.std.proofs.Common.{◌≡◌, ◌∙◌, sym, [], arith, rules, FitsSigned}
 use Rattle.std.specs.Int.{w128}
 use Rattle.std.proofs.lemmas.Int.{ints}
-use Rattle.toy_imp.specs.Store.{held, read}
-use Rattle.toy_run.specs.Stored.{store_by}
-use Rattle.toy_run.proofs.Variables.{variable_read}
+use Rattle.toy_imp.specs.Store.{read}
+use Rattle.toy_run.specs.Memory.{store_in}
+use Rattle.toy_run.proofs.InOrder.{apart_read, variable_is_apart}
 use Rattle.toy_run.proofs.memory.Memory.variable.Goals as goal
 
-pub returns-in-Some : goal.returns-in-Some
-returns-in-Some c =
-    let fits : FitsSigned w128 c.in-Some.value.now = search rules in
-    let e : c.in-Some.value.now ≡ read (store_by c.args.self.now.variables.entries c.args.self.now.cells.entries) (c.args.name.now, []) =
-    ap held c.in-Some.ensures.value ∙ sym (variable_read c.args.self.now.variables.entries c.args.self.now.cells.entries c.args.name c.args.self.now.no_variable) in
+pub returns : goal.returns
+returns c =
+    let fits : FitsSigned w128 c.variable.result = search rules in
+    let e : c.variable.result ≡ read (store_in c.args.self.now) (c.args.name.now, []) =
+    c.variable.ensures ∙ sym (apart_read c.args.self.now.ascending _ (c.args.name.now, []) (variable_is_apart c.args.self.now.ascending c.args.name.now c.args.self.now.indexed)) in
     omega (arith, ints, e)
-
-pub returns-in-None : goal.returns-in-None
-returns-in-None c = ap held c.in-None.ensures.value ∙ sym (variable_read c.args.self.now.variables.entries c.args.self.now.cells.entries c.args.name c.args.self.now.no_variable)

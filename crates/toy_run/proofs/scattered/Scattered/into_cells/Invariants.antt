@@ -3,7 +3,7 @@ use Rattle.std.specs.BTreeMap as tree
 use Rattle.toy_run.specs.Place.{place_cmp}
 use Rattle.toy_run.specs.Stored.{store_by}
 use Rattle.toy_run.specs.declared.place.Place.{Place}
-use Rattle.toy_run.proofs.memory.Memory.into_cells.Given as goal
+use Rattle.toy_run.proofs.scattered.Scattered.into_cells.Given as goal
 
 abbrev pub invariant-loop-name : goal.invariant-loop-name
 invariant-loop-name l = (store_by l.variables.entries l.cells.entries ≡ store_by l.fn.self.variables.entries l.fn.self.cells.entries) × ((p : Place) → tree.get place_cmp l.cells p ≢ Some (pos 0))

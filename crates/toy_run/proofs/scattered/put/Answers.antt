@@ -2,7 +2,7 @@ use Rattle.std.proofs.Common.{◌≡◌, None, Some, pos, arith, to_z, of_z}
 use Rattle.std.specs.Int.{w128}
 use Rattle.std.proofs.lemmas.Int.{ints}
 use Rattle.toy_run.proofs.Stores.{made_by_write}
-use Rattle.toy_run.proofs.memory.put.Goals as goal
+use Rattle.toy_run.proofs.scattered.put.Goals as goal
 
 pub returns-then-value-eq0-clause-stored : goal.returns-then-value-eq0-clause-stored
 returns-then-value-eq0-clause-stored c =

@@ -2,7 +2,7 @@ use Rattle.std.proofs.Common.{ℤ}
 use Rattle.std.proofs.lemmas.Map.Iter.{iter_end}
 use Rattle.toy_run.specs.declared.place.Place.{Place}
 use Rattle.toy_run.proofs.Listing.{all_listed}
-use Rattle.toy_run.proofs.memory.listed.Goals as goal
+use Rattle.toy_run.proofs.scattered.listed.Goals as goal
 
 pub returns : goal.returns
 returns c =
