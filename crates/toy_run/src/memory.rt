@@ -92,7 +92,7 @@ impl<'a> Memory<'a> {
         requires { place.indices ≢ [] }
         ensures { OnOk result (with_cells self.new.ascending (store_by self.new.rest.variables.entries self.new.rest.cells.entries) ≡ write (with_cells self.old.ascending (store_by self.old.rest.variables.entries self.old.rest.cells.entries)) (cell_of place.entry) value) }
     {
-        if is_behind(self.ascending.as_slice(), &place) {
+        if value != 0 && is_behind(self.ascending.as_slice(), &place) {
             self.ascending.push(placed(alloc, place, value)?)?;
             return Ok(());
         }
