@@ -151,14 +151,14 @@ pub fn evaluate_all<'a>(
 ) -> Result<Option<Items<i128>>, NoMemory>
     ensures { IfOk result (λ o. SomeIff o (NarrowExprs (exprs_of es.now) (store_in memory.now)) (values (exprs_of es.now) (store_in memory.now))) }
 {
-    let mut all = Items::new(alloc);
+    let mut all = Vec::with_capacity(alloc, es.len())?;
     for e in es {
         let Some(v) = evaluate(alloc, e, memory)? else {
             return Ok(None);
         };
         all.push(v)?;
     }
-    Ok(Some(all))
+    Ok(Some(Items::from_vec(all)))
 }
 
 /// The values of two expressions, where all their parts are narrow.

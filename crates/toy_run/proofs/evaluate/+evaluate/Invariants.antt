@@ -22,4 +22,4 @@ abbrev pub decreases-evaluate_all : goal.decreases-evaluate_all
 decreases-evaluate_all l = 2 * depths (exprs_of l.es.now) + 1
 
 abbrev pub invariant-evaluate_all-loop-e : goal.invariant-evaluate_all-loop-e
-invariant-evaluate_all-loop-e l = (l.all ≡ values (exprs_of (take l.e-index l.es)) (store_in l.memory)) × NarrowExprs (exprs_of (take l.e-index l.es)) (store_in l.memory)
+invariant-evaluate_all-loop-e l = (l.all.items ≡ values (exprs_of (take l.e-index l.es)) (store_in l.memory)) × NarrowExprs (exprs_of (take l.e-index l.es)) (store_in l.memory)
