@@ -2,7 +2,7 @@
 use Rattle.std.specs.Prelude.{◌≡◌, ℕ, zero, suc, ◌+◌, List, [], ◌∷◌, Some, None, refl}
 use Rattle.std.proofs.Common.{sym, ◌∙◌, ap, ap₂, subst, arith, below_more, add-one}
 use Rattle.toy_imp.specs.Store.{Store}
-use Rattle.toy_imp.specs.Run.{Item, Done, act, turns, restore, halt, step, Outcome, ended, halted, run}
+use Rattle.toy_imp.specs.Run.{Item, Done, halt, step, ended, halted, run}
 use Rattle.toy_run.specs.declared.step.Width.{Width}
 use Rattle.toy_run.specs.declared.step.Width.TheVariants.{Narrow, Wide}
 use Rattle.toy_run.specs.Narrow.{NarrowItem}

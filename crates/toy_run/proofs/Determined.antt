@@ -10,13 +10,13 @@ use Rattle.std.proofs.lemmas.Bool.{cases_order}
 use Rattle.toy_imp.specs.Store.{Store}
 use Rattle.toy_imp.specs.Block.{Block}
 use Rattle.toy_imp.specs.Run.{Item, halt, before, Outcome, ended, halted, run}
-use Rattle.toy_imp.proofs.Runs.{run-more, one_run, one_final_store, one_halted_store, never_both}
+use Rattle.toy_imp.proofs.Runs.{run-more, one_final_store, one_halted_store, never_both}
 use Rattle.toy_run.specs.declared.cell.Cell.{Cell}
 use Rattle.toy_run.specs.declared.ran.Ran.{Ran}
 use Rattle.toy_run.specs.declared.ran.Ran.TheVariants.{Ended, Halted, Spent, Wide}
 use Rattle.toy_run.specs.Cells.{cell_order, AreCells}
 use Rattle.toy_run.specs.Place.{listed_total}
-use Rattle.toy_run.specs.Ran.{Leaves, Comes, ComesTo}
+use Rattle.toy_run.specs.Ran.{Comes, ComesTo}
 use Rattle.toy_run.specs.Steps.{after, NarrowNext, WideNext, NarrowUpTo, WideAt, ComesOutAt}
 use Rattle.toy_run.specs.Stored.{empty_store}
 use Rattle.toy_run.proofs.Counting.{run_open}

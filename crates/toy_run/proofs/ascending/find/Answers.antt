@@ -1,5 +1,5 @@
 use Rattle.std.proofs.Common.{◌∙◌, sym, arith}
-use Rattle.toy_run.proofs.InOrder.{between_all, between_above, between_below, between_equal, between_none}
+use Rattle.toy_run.proofs.InOrder.{between_above, between_below, between_equal, between_none}
 use Rattle.toy_run.proofs.ascending.find.Goals as goal
 
 pub loop-low-preserved-in-Less : goal.loop-low-preserved-in-Less

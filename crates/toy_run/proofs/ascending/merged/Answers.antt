@@ -1,6 +1,6 @@
-use Rattle.std.proofs.Common.{◌≡◌, ◌∙◌, sym, ap, subst, IfOk}
+use Rattle.std.proofs.Common.{◌∙◌, ap, subst, IfOk}
 use Rattle.toy_run.specs.Cells.{AreCells}
-use Rattle.toy_run.specs.Stored.{store_of, with_cells}
+use Rattle.toy_run.specs.Stored.{with_cells}
 use Rattle.toy_run.proofs.Stores.{made_of_none}
 use Rattle.toy_run.proofs.ascending.merged.Goals as goal
 

@@ -1,4 +1,4 @@
-use Rattle.std.proofs.Common.{◌≡◌, ◌∙◌, sym, arith}
+use Rattle.std.proofs.Common.{◌∙◌, arith}
 use Rattle.std.proofs.lemmas.Int.{ints}
 use Rattle.toy_run.proofs.InOrder.{put_last, none_left}
 use Rattle.toy_run.proofs.ascending.put_all.Goals as goal

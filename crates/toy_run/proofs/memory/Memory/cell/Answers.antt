@@ -2,7 +2,6 @@ use Rattle.std.proofs.Common.{◌≡◌, ◌∙◌, sym, ap, subst, get_or, arit
 use Rattle.std.specs.Int.{w128}
 use Rattle.std.proofs.lemmas.Int.{ints}
 use Rattle.toy_imp.specs.Store.{read}
-use Rattle.toy_run.specs.Cells.{cell_order}
 use Rattle.toy_run.specs.Memory.{store_in}
 use Rattle.toy_run.specs.Place.{cell_of}
 use Rattle.toy_run.specs.Stored.{IsApart, IsCellAt}

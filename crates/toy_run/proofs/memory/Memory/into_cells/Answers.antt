@@ -1,4 +1,4 @@
-use Rattle.std.proofs.Common.{◌≡◌, subst, All, Result, Ok, Err, IfOk, []}
+use Rattle.std.proofs.Common.{◌≡◌, subst, All, Result, Ok, Err, IfOk}
 use Rattle.toy_imp.specs.Store.{Store}
 use Rattle.toy_run.specs.declared.cell.Cell.{Cell}
 use Rattle.std.specs.Prelude.{List}

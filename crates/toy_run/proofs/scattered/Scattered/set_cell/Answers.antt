@@ -1,4 +1,4 @@
-use Rattle.std.proofs.Common.{◌≡◌, ◌≢◌, ◌∙◌, ap, [], None, Some, pos, arith, rules, to_z, of_z}
+use Rattle.std.proofs.Common.{◌≡◌, ◌≢◌, [], None, Some, pos, arith, to_z, of_z}
 use Rattle.std.specs.Int.{w128}
 use Rattle.std.proofs.lemmas.Int.{ints}
 use Rattle.toy_run.proofs.Stores.{made_by_write}
