@@ -102,10 +102,10 @@ module _ (rule : Rule) (points : CutPoints) (entries : List Entry) where
     pub in_order : map (λ (p : Proved). p.spot) proofs ≡ spots
     pub proved : All (IsProof rule points entries) proofs
 
-  no_proof : All (IsProof rule points entries) []
+  pub no_proof : All (IsProof rule points entries) []
   no_proof k d h = absurd (omega (arith, h))
 
-  one_more : (p : Proved) (proofs : List Proved) → IsProof rule points entries p → All (IsProof rule points entries) proofs → All (IsProof rule points entries) (p ∷ proofs)
+  pub one_more : (p : Proved) (proofs : List Proved) → IsProof rule points entries p → All (IsProof rule points entries) proofs → All (IsProof rule points entries) (p ∷ proofs)
   one_more p proofs first others zero d h = first
   one_more p proofs first others (suc k) d h = others k d (omega (arith, h))
 
