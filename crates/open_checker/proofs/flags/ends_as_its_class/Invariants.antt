@@ -1,0 +1,8 @@
+-- What is left of the marks agrees exactly where all do.
+use Rattle.std.proofs.Common.{◌≡◌, drop}
+use Rattle.std.specs.List.{list_all}
+use Rattle.open_checker.specs.Points.{ends_alike}
+use Rattle.open_checker.proofs.flags.ends_as_its_class.Given as goal
+
+abbrev pub invariant-loop-n : goal.invariant-loop-n
+invariant-loop-n l = list_all (ends_alike l.m) (drop l.n-index l.stores) ≡ list_all (ends_alike l.m) l.stores

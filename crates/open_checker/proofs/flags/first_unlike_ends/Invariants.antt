@@ -1,0 +1,8 @@
+-- All that was looked at passes.
+use Rattle.std.proofs.Common.{◌≡◌, take, true}
+use Rattle.std.specs.List.{list_all}
+use Rattle.open_checker.specs.Points.{ends_as_its_class}
+use Rattle.open_checker.proofs.flags.first_unlike_ends.Given as goal
+
+abbrev pub invariant-loop-k : goal.invariant-loop-k
+invariant-loop-k l = list_all (ends_as_its_class l.stores) (take l.k l.stores) ≡ true
