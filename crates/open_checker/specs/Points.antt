@@ -11,7 +11,7 @@ use Rattle.open_checker.specs.declared.escape.StoreMark.{StoreMark}
 use Rattle.open_checker.specs.declared.escape.ValueMark.{ValueMark}
 use Rattle.open_checker.specs.declared.escape.TestMark.{TestMark}
 use Rattle.open_checker.specs.declared.escape.Escape.{Escape}
-use Rattle.open_checker.specs.Marks.{store_mark, value_mark, one_class, literal_true, gives_true, conjunct_true}
+use Rattle.open_checker.specs.Marks.{store_mark, value_mark, one_class, literal_true, gives_true}
 
 -- the item at this place is the first that fails a test
 pub record IsFirstFailing {X : Type 0} (passes : X → Bool) (items : List X) (k : ℕ) : Type 0 where

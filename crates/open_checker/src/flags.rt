@@ -83,8 +83,8 @@ fn first_unlike_tests(stores: &[StoreMark], tests: &[TestMark]) -> Option<usize>
 }
 
 /// The place of the first test mark with another flag than some mark of the same parameter at a
-/// store of the same class. `None` exactly where all such marks have one flag. It takes two look-ups
-/// of stores for each two marks of one parameter.
+/// store of the same class. `None` exactly where all such marks have one flag. It takes two
+/// look-ups of stores for each two marks of one parameter.
 pub fn unlike_tests(e: &Escape) -> Option<usize>
     ensures { AllPass (holds_as_its_class e.now.stores e.now.tests) e.now.tests result }
 {

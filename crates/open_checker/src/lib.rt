@@ -1,7 +1,7 @@
-//! What an escape has to meet, one call a point, each exact: flags, numbers, known conjuncts, path and goal.
-//! An escape is a finite model in which an obligation fails: classes of names and stores, numbers of values,
-//! and flags. `specs/Marks.antt` says which atoms are true in it, `specs/Points.antt` what is asked.
-//! The check of a whole escape is not here: README.md says what is missing.
+//! What an escape has to meet, one exact call a point: like terms, flags, numbers, known conjuncts,
+//! path and goal. An escape is a finite model in which an obligation fails: classes of names and
+//! stores, numbers of values, and flags. `specs/Marks.antt` says which atoms are true in it,
+//! `specs/Points.antt` and `Likeness.antt` what is asked. README.md says what is missing.
 #![tactic(auto)]
 
 mod conjuncts;

@@ -1,5 +1,5 @@
 //! Like terms: of one constructor and parameter, with arguments that agree. They agree themselves.
-//! `specs/Likeness.antt` says which terms are alike. Each call looks arguments up by a walk over marks.
+//! `specs/Likeness.antt` says which terms are alike. Arguments are looked up by a walk over marks.
 
 ghost use Rattle.std.specs.Prelude.{◌≡◌};
 ghost use Rattle.std.specs.List.{list_all};
@@ -27,7 +27,7 @@ fn values_agree(params: &[Kind], e: &Escape, a: &ValueTerm, b: &ValueTerm) -> bo
     one_value(e.values.as_slice(), a, b)
 }
 
-#[tactic(auto, using(crate::proofs::Indices::other_number), unfolding(crate::specs::Likeness::indices_agree))]
+#[tactic(auto, unfolding(crate::specs::Likeness::indices_agree))]
 fn indices_agree(params: &[Kind], e: &Escape, is: &[ValueTerm], js: &[ValueTerm]) -> bool
     ensures { result ≡ indices_agree params.now e.now (terms_of is.now) (terms_of js.now) }
 {
@@ -107,7 +107,12 @@ fn value_agrees_with(params: &[Kind], e: &Escape, m: &ValueMark, n: &ValueMark) 
 
 // The place of the first mark of these that the mark does not agree with.
 #[tactic(auto, using(crate::proofs::Places::passes_next, crate::proofs::Places::first_failing))]
-fn first_unlike_store(params: &[Kind], e: &Escape, m: &StoreMark, marks: &[StoreMark]) -> Option<usize>
+fn first_unlike_store(
+    params: &[Kind],
+    e: &Escape,
+    m: &StoreMark,
+    marks: &[StoreMark],
+) -> Option<usize>
     ensures { AllPass (store_agrees_with params.now e.now m.now) marks.now result }
 {
     for (k, n) in marks.iter().enumerate() {
@@ -168,7 +173,12 @@ pub fn unlike_store(params: &[Kind], e: &Escape, m: &StoreMark) -> Option<usize>
 
 // The place of the first mark of these that the mark does not agree with.
 #[tactic(auto, using(crate::proofs::Places::passes_next, crate::proofs::Places::first_failing))]
-fn first_unlike_value(params: &[Kind], e: &Escape, m: &ValueMark, marks: &[ValueMark]) -> Option<usize>
+fn first_unlike_value(
+    params: &[Kind],
+    e: &Escape,
+    m: &ValueMark,
+    marks: &[ValueMark],
+) -> Option<usize>
     ensures { AllPass (value_agrees_with params.now e.now m.now) marks.now result }
 {
     for (k, n) in marks.iter().enumerate() {

@@ -38,10 +38,10 @@ fn is_difference(m: i128, n: i128, by: i128) -> bool
 fn has_difference(marks: &[ValueMark], base: &ValueTerm, n: i128, by: i128) -> bool
     ensures { result ≡ is_that_number (value_mark marks.now base.now) (n -ℤ by) }
 {
-    match value_mark(marks, base) {
-        Some(m) => is_difference(m.number, n, by),
-        None => false,
-    }
+    let Some(m) = value_mark(marks, base) else {
+        return false;
+    };
+    is_difference(m.number, n, by)
 }
 
 fn is_offset(marks: &[ValueMark], v: &ValueTerm, n: i128) -> bool

@@ -1,5 +1,5 @@
 -- So many are among the parameters looked at, and the others are counted behind them.
-use Rattle.std.proofs.Common.{◌≡◌, ◌+◌, ◌≤◌, drop, length}
+use Rattle.std.proofs.Common.{◌≡◌, ◌+◌, ◌≤◌, drop}
 use Rattle.open_checker.specs.Marks.{count_names}
 use Rattle.open_checker.proofs.marks.count_names.Given as goal
 
