@@ -1,2 +1,3 @@
+pub mod EscapeLaws
 pub mod Indices
 pub mod Places

@@ -1,3 +1,4 @@
+pub mod EscapeLaws
 pub mod Likeness
 pub mod Marks
 pub mod Points

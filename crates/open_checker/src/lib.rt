@@ -7,6 +7,7 @@
 mod conjuncts;
 mod escape;
 mod flags;
+pub mod laws;
 mod likeness;
 mod marks;
 mod numbers;
