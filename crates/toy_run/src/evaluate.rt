@@ -1,7 +1,7 @@
 //! Values of expressions and the truth of tests, where all their parts are narrow.
 //! `specs/Narrow.antt` says where they are; values and truth are those of the meaning of programs.
 
-ghost use Rattle.std.specs.Prelude.{◌≡◌, IfOk, OnOk};
+ghost use Rattle.std.specs.Prelude.{◌≡◌, IfOk, IfSome, OnOk};
 ghost use Rattle.std.specs.Option.{SomeIff};
 ghost use Rattle.toy_imp.specs.Cell.{spelled, variable};
 ghost use Rattle.toy_imp.specs.Expr.{add, sub, mul};
@@ -81,6 +81,39 @@ pub fn evaluate<'a>(
     }
 }
 
+// The value of a constant or a variable, which needs no memory.
+#[tactic(auto, unfolding(toy_imp::specs::Value::value, crate::specs::Narrow::NarrowExpr))]
+fn evaluate_leaf<'a>(e: &'a Expr, memory: &Memory<'a>) -> Option<i128>
+    ensures { IfSome result (λ v. NarrowExpr e.now (store_in memory.now) × (v ≡ value e.now (store_in memory.now))) }
+{
+    match &e.node {
+        ExprNode::Num(z) => Some(i128::from(*z)),
+        ExprNode::At(name, indices) => {
+            if indices.is_empty() {
+                Some(read_variable(name, memory))
+            } else {
+                None
+            }
+        }
+        _ => None,
+    }
+}
+
+// The value of an expression, where all its parts are narrow; constants and variables come first.
+#[cycle(evaluate)]
+fn evaluate_part<'a>(
+    alloc: Global,
+    e: &'a Expr,
+    memory: &Memory<'a>,
+) -> Result<Option<i128>, NoMemory>
+    ensures { IfOk result (λ o. SomeIff o (NarrowExpr e.now (store_in memory.now)) (value e.now (store_in memory.now))) }
+{
+    match evaluate_leaf(e, memory) {
+        Some(value) => Ok(Some(value)),
+        None => evaluate(alloc, e, memory),
+    }
+}
+
 // The sum of two expressions, where it and all its parts are narrow.
 #[cycle(evaluate)]
 #[tactic(auto, unfolding(toy_imp::specs::Value::value, crate::specs::Narrow::NarrowExpr))]
@@ -92,10 +125,10 @@ fn evaluate_sum<'a>(
 ) -> Result<Option<i128>, NoMemory>
     ensures { IfOk result (λ o. SomeIff o (NarrowExpr (add a.now b.now) (store_in memory.now)) (value (add a.now b.now) (store_in memory.now))) }
 {
-    let Some(a) = evaluate(alloc, a, memory)? else {
+    let Some(a) = evaluate_part(alloc, a, memory)? else {
         return Ok(None);
     };
-    let Some(b) = evaluate(alloc, b, memory)? else {
+    let Some(b) = evaluate_part(alloc, b, memory)? else {
         return Ok(None);
     };
     Ok(a.checked_add(b))
@@ -112,10 +145,10 @@ fn evaluate_difference<'a>(
 ) -> Result<Option<i128>, NoMemory>
     ensures { IfOk result (λ o. SomeIff o (NarrowExpr (sub a.now b.now) (store_in memory.now)) (value (sub a.now b.now) (store_in memory.now))) }
 {
-    let Some(a) = evaluate(alloc, a, memory)? else {
+    let Some(a) = evaluate_part(alloc, a, memory)? else {
         return Ok(None);
     };
-    let Some(b) = evaluate(alloc, b, memory)? else {
+    let Some(b) = evaluate_part(alloc, b, memory)? else {
         return Ok(None);
     };
     Ok(a.checked_sub(b))
@@ -132,10 +165,10 @@ fn evaluate_product<'a>(
 ) -> Result<Option<i128>, NoMemory>
     ensures { IfOk result (λ o. SomeIff o (NarrowExpr (mul a.now b.now) (store_in memory.now)) (value (mul a.now b.now) (store_in memory.now))) }
 {
-    let Some(a) = evaluate(alloc, a, memory)? else {
+    let Some(a) = evaluate_part(alloc, a, memory)? else {
         return Ok(None);
     };
-    let Some(b) = evaluate(alloc, b, memory)? else {
+    let Some(b) = evaluate_part(alloc, b, memory)? else {
         return Ok(None);
     };
     Ok(a.checked_mul(b))
@@ -153,7 +186,7 @@ pub fn evaluate_all<'a>(
 {
     let mut all = Vec::with_capacity(alloc, es.len())?;
     for e in es {
-        let Some(v) = evaluate(alloc, e, memory)? else {
+        let Some(v) = evaluate_part(alloc, e, memory)? else {
             return Ok(None);
         };
         all.push(v)?;
@@ -244,10 +277,10 @@ fn is_less<'a>(
 ) -> Result<Option<bool>, NoMemory>
     ensures { IfOk result (λ o. SomeIff o (NarrowTest (less a.now b.now) (store_in memory.now)) (truth (less a.now b.now) (store_in memory.now))) }
 {
-    let Some(a) = evaluate(alloc, a, memory)? else {
+    let Some(a) = evaluate_part(alloc, a, memory)? else {
         return Ok(None);
     };
-    let Some(b) = evaluate(alloc, b, memory)? else {
+    let Some(b) = evaluate_part(alloc, b, memory)? else {
         return Ok(None);
     };
     Ok(Some(a < b))
@@ -263,10 +296,10 @@ fn is_at_most<'a>(
 ) -> Result<Option<bool>, NoMemory>
     ensures { IfOk result (λ o. SomeIff o (NarrowTest (less_eq a.now b.now) (store_in memory.now)) (truth (less_eq a.now b.now) (store_in memory.now))) }
 {
-    let Some(a) = evaluate(alloc, a, memory)? else {
+    let Some(a) = evaluate_part(alloc, a, memory)? else {
         return Ok(None);
     };
-    let Some(b) = evaluate(alloc, b, memory)? else {
+    let Some(b) = evaluate_part(alloc, b, memory)? else {
         return Ok(None);
     };
     Ok(Some(a <= b))
@@ -282,10 +315,10 @@ fn are_equal<'a>(
 ) -> Result<Option<bool>, NoMemory>
     ensures { IfOk result (λ o. SomeIff o (NarrowTest (equal a.now b.now) (store_in memory.now)) (truth (equal a.now b.now) (store_in memory.now))) }
 {
-    let Some(a) = evaluate(alloc, a, memory)? else {
+    let Some(a) = evaluate_part(alloc, a, memory)? else {
         return Ok(None);
     };
-    let Some(b) = evaluate(alloc, b, memory)? else {
+    let Some(b) = evaluate_part(alloc, b, memory)? else {
         return Ok(None);
     };
     Ok(Some(a == b))
