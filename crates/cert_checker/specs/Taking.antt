@@ -115,6 +115,9 @@ module _ (rule : Rule) (points : CutPoints) (entries : List Entry) (proofs : Lis
       (taken_paths (record { rule = rule; entries = entries; proofs = proofs; known = e.conjuncts; entry = k }) (lefts rule points e) (rights rule points e) n)
       None)
 
+  abbrev pub taken_entries : Option ℕ
+  taken_entries = along taken_entry 0 entries 0
+
   -- all proofs are taken
   unfoldable pub takes_all : Bool
-  takes_all = is_last proofs (along taken_entry 0 entries 0)
+  takes_all = is_last proofs taken_entries

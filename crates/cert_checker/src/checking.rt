@@ -7,7 +7,7 @@ ghost use Rattle.entry_pairs.specs.CutAnswers.{may_be_entry};
 ghost use Rattle.spot_obligations.specs.Owed.{pair_of};
 ghost use Rattle.spot_obligations.specs.PathsOfEntry.{are_inside};
 ghost use Rattle.cert_checker.specs.Certificates.{Certifies, IsCertificate, IsRelation};
-ghost use Rattle.cert_checker.specs.Taking.{along, taken_entry, takes_all};
+ghost use Rattle.cert_checker.specs.Taking.{taken_entry, taken_entries, takes_all};
 
 use crate::certificate::{Certificate, Proved};
 use crate::relation::is_relation;
@@ -18,7 +18,8 @@ use spot_obligations::{Entry, entry_paths, is_exit};
 use std::alloc::Global;
 use toy_imp::{NoMemory, Rule};
 
-// The place behind the next proofs, if there is one for each spot of this entry. Its paths are built here.
+// The place behind the next proofs, if there is one for each spot of this entry. Its paths are built
+// here.
 #[tactic(auto, unfolding(crate::specs::Taking::taken_entry))]
 fn take_entry(
     alloc: Global,
@@ -70,7 +71,7 @@ fn take_entries(
     requires well_formed { well_formed rule.now ≡ true }
     requires simulates { is_simulate rule.now.method ≡ true }
     requires inside { are_inside rule.now entries.now ≡ true }
-    ensures { IfOk result (λ n. n ≡ along (taken_entry rule.now points.now entries.now proofs.now) 0 entries.now 0) }
+    ensures { IfOk result (λ n. n ≡ taken_entries rule.now points.now entries.now proofs.now) }
 {
     let mut next = 0;
     for k in 0..entries.len() {
@@ -135,10 +136,11 @@ fn is_certificate(alloc: Global, rule: &Rule, cert: &Certificate) -> Result<bool
     }
 }
 
-/// Whether the certificate proves the rule, which is well formed and of method simulate. Where it does the rule is
-/// valid: under each instance that meets its conditions both sides end alike and halt alike.
+/// Whether the certificate proves the rule, which is well formed and of method simulate. Where it does the
+/// rule is valid: under each instance that meets its conditions both sides end alike and halt alike.
 /// `NoMemory` comes where memory runs out, or where a side has 2^32 - 1 points or more.
-/// The paths of each entry are built once; it stops at the first proof that is not of the spot that comes next.
+/// The paths of each entry are built once; it stops at the first proof that is not of the spot that comes
+/// next.
 pub fn check(alloc: Global, rule: &Rule, cert: &Certificate) -> Result<bool, NoMemory>
     requires well_formed { well_formed rule.now ≡ true }
     requires simulates { is_simulate rule.now.method ≡ true }

@@ -1,6 +1,7 @@
-//! Certificates of rules: a relation between the points of both sides, with a refutation of each obligation of it.
-//! `specs/Certificates.antt` says which certificates prove their rule; `check` finds it out, in one walk.
-//! It stands on paths, preconditions and refutations, and on nothing of the prover. What has a certificate is valid.
+//! Certificates of rules: a relation between the points of both sides, with a refutation of each obligation
+//! of it. `specs/Certificates.antt` says which certificates prove their rule; `check` finds it out, in one
+//! walk. It stands on paths, preconditions and refutations, and on nothing of the prover. What has a
+//! certificate is valid.
 #![tactic(auto)]
 
 mod certificate;

@@ -135,8 +135,8 @@ fn is_relation_of(
     Ok(!repeat)
 }
 
-/// Whether the entries are different pairs of cut points: the starts and the exits, each with `L = R` alone, and
-/// others before the exits with at most 32 conjuncts.
+/// Whether the entries are different pairs of cut points: the starts and the exits, each with `L = R`
+/// alone, and others before the exits with at most 32 conjuncts.
 pub fn is_relation(
     alloc: Global,
     rule: &Rule,

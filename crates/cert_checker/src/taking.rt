@@ -1,10 +1,12 @@
 //! The walk over the spots of a relation that takes the proofs of a certificate one after another.
-//! `specs/Taking.antt` says how it goes. No path is built twice, and one obligation is at hand at a time.
+//! `specs/Taking.antt` says how it goes. No path is built twice, and one obligation is at hand at a
+//! time.
 
 ghost use Rattle.std.specs.Prelude.{◌≡◌, None, IfOk};
 ghost use Rattle.spot_obligations.specs.Owed as owed;
 ghost use Rattle.cert_checker.specs.Taking as spec;
-ghost use Rattle.cert_checker.specs.Taking.{around_of, pair_of, spot_of, along, taken_numbered, taken_right, taken_left, taken_paths};
+ghost use Rattle.cert_checker.specs.Taking.{around_of, pair_of, spot_of, along, taken_numbered};
+ghost use Rattle.cert_checker.specs.Taking.{taken_left, taken_paths};
 
 use crate::certificate::Proved;
 use proof_steps::{Refutation, refutes};
@@ -56,7 +58,8 @@ fn is_at(spot: &Spot, here: Pair<'_>, number: Option<usize>) -> bool
         && (spot.right as usize == here.right_number && same_number(spot.conjunct, number))
 }
 
-// Whether the refutation is one of the obligation of this pair and goal, with so many conjuncts known.
+// Whether the refutation is one of the obligation of this pair and goal, with so many conjuncts
+// known.
 #[tactic(auto, unfolding(crate::specs::Taking::proves))]
 fn proves(
     alloc: Global,
@@ -201,7 +204,8 @@ fn take_rights(
     Ok(Some(next))
 }
 
-/// The place behind the next proofs, if there is one for each spot of this entry, whose paths these are.
+/// The place behind the next proofs, if there is one for each spot of this entry, whose paths these
+/// are.
 pub fn take_paths(
     alloc: Global,
     around: Around<'_>,

@@ -1,10 +1,11 @@
 -- The obligation at a spot of a relation: a spot is a pair of paths of an entry, and a conjunct that they owe where they stop.
 -- Known are the first conjuncts of the entry, as many as are used; the path is the literals of both paths; the goal is the conjunct
 -- said of the stores where they stop. A spot that the relation has not has no obligation; one of too many nodes is not built.
-use Rattle.std.specs.Prelude.{ℕ, cond, List, map, take, length, nat_lt, nat_le, Option, Some, None, slice_get, Result, Ok, Err}
+use Rattle.std.specs.Prelude.{ℕ, Bool, cond, List, map, take, length, nat_lt, nat_le, Option, Some, None, slice_get, Result, Ok, Err}
 use Rattle.toy_imp.specs.declared.rule.Rule.{Rule}
 use Rattle.rule_terms.specs.Counts.{obligation_nodes}
 use Rattle.rule_terms.specs.declared.obligation.Conjunct.{Conjunct}
+use Rattle.rule_terms.specs.declared.obligation.Literal.{Literal}
 use Rattle.rule_terms.specs.declared.obligation.Obligation.{Obligation}
 use Rattle.rule_terms.specs.declared.path.Path.{Path}
 use Rattle.parallel_wp.specs.Precondition.{both_literals, goal_at}
@@ -13,6 +14,7 @@ use Rattle.entry_pairs.specs.declared.refusal.LimitMark.{LimitMark}
 use Rattle.entry_pairs.specs.Cuts.{cuts}
 use Rattle.spot_obligations.specs.declared.entry.Entry.{Entry}
 use Rattle.spot_obligations.specs.declared.entry.Spot.{Spot}
+use Rattle.spot_obligations.specs.declared.paths_of_entry.EntryPaths.{EntryPaths}
 use Rattle.spot_obligations.specs.declared.obligation_at.ObligationAt.{ObligationAt}
 use Rattle.spot_obligations.specs.declared.obligation_at.ObligationAt.TheVariants.{Found, Heavy, Absent}
 use Rattle.spot_obligations.specs.Owed.{owed, owed_at}
@@ -48,15 +50,13 @@ with_entry rule points entries spot (Some e) = cond (is_walked rule points e) (a
 unfoldable pub at_spot : Rule → CutPoints → List Entry → Spot → Option AtSpot
 at_spot rule points entries spot = with_entry rule points entries spot (slice_get entries spot.entry)
 
--- known conjuncts, a pair of paths and a conjunct that they owe, as an obligation of a rule
+-- an obligation of a rule
+abbrev pub of_rule : Rule → List Conjunct → List Literal → Conjunct → Obligation
+of_rule rule known path goal = record { params = map (λ p. p.kind) rule.params; conditions = rule.conditions; known = known; path = path; goal = goal }
+
+-- known conjuncts, a pair of paths and a conjunct that they owe
 unfoldable pub obligation_of : Rule → List Conjunct → Path → Path → Conjunct → Obligation
-obligation_of rule known l r goal = record {
-  params = map (λ p. p.kind) rule.params;
-  conditions = rule.conditions;
-  known = known;
-  path = both_literals l r;
-  goal = goal_at l r goal;
-}
+obligation_of rule known l r goal = of_rule rule known (both_literals l r) (goal_at l r goal)
 
 -- with so many conjuncts known; nothing where the entry has fewer
 abbrev pub with_known : Rule → ℕ → Option AtSpot → Option Obligation
@@ -66,10 +66,27 @@ with_known rule used (Some s) = cond (nat_le used (length s.known)) (Some (oblig
 unfoldable pub obligation_at : Rule → CutPoints → List Entry → Spot → ℕ → Option Obligation
 obligation_at rule points entries spot used = with_known rule used (at_spot rule points entries spot)
 
+-- that has more nodes than are built
+abbrev pub is_heavy : Rule → List Conjunct → Path → Path → Conjunct → Bool
+is_heavy rule known l r goal = nat_lt 4096 (obligation_nodes (obligation_of rule known l r goal))
+
 -- what is answered of it
 abbrev pub weighed : Option Obligation → ObligationAt
 weighed None = Absent
 weighed (Some ob) = cond (nat_lt 4096 (obligation_nodes ob)) Heavy (Found ob)
+
+-- .. of a pair of paths and a conjunct; of a pair and a number of what they owe; and of a spot among the paths of its entry
+abbrev pub weighed_of : Rule → List Conjunct → Path → Path → Conjunct → ObligationAt
+weighed_of rule known l r goal = weighed (Some (obligation_of rule known l r goal))
+
+abbrev pub of_pair : Rule → List Entry → List Conjunct → Path → Path → Option ℕ → ℕ → ObligationAt
+of_pair rule entries known l r c used = weighed (with_known rule used (with_right rule entries known l c (Some r)))
+
+abbrev pub of_paths : Rule → List Entry → List Conjunct → EntryPaths → Spot → ℕ → ObligationAt
+of_paths rule entries known all spot used = weighed (with_known rule used (among_paths rule entries known all.lefts all.rights spot))
+
+abbrev pub of_entry : Rule → CutPoints → List Entry → Entry → Spot → ℕ → ObligationAt
+of_entry rule points entries e spot used = weighed (with_known rule used (with_entry rule points entries spot (Some e)))
 
 abbrev pub obligation_by : Rule → Result CutPoints LimitMark → List Entry → Spot → ℕ → ObligationAt
 obligation_by rule (Err mark) entries spot used = Absent

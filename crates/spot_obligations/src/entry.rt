@@ -1,4 +1,5 @@
-//! A relation between the two sides of a rule, as entries, and the spots at which something has to be shown of it.
+//! A relation between the two sides of a rule, as entries, and the spots at which something has to be shown
+//! of it.
 //! `specs/Spots.antt` says which spots a relation has.
 
 ghost use Rattle.std.specs.Prelude.{◌≡◌, IfOk};
@@ -33,7 +34,8 @@ impl Entry {
     }
 }
 
-/// A place where something has to be shown: a path of each side from an entry, and what they owe where they stop.
+/// A place where something has to be shown: a path of each side from an entry, and what they owe where
+/// they stop.
 #[derive(Clone, Copy, Debug, PartialEq, Eq)]
 pub struct Spot {
     /// The number of the entry.
@@ -42,6 +44,6 @@ pub struct Spot {
     pub left: u32,
     /// The number of the path of the right side.
     pub right: u32,
-    /// The number of the conjunct of the entry where the paths arrive; none where they arrive at no entry.
+    /// The number of the conjunct of the entry where the paths arrive; none where they arrive at none.
     pub conjunct: Option<u32>,
 }

@@ -1,5 +1,5 @@
-//! What has to be shown of a relation between the two sides of a rule: spots, and the obligation at each.
-//! `specs/Owed.antt` says what a pair of paths owes, `specs/Obligations.antt` what the obligation at a spot is.
+//! What has to be shown of a relation between the two sides of a rule: its spots, and the obligation at
+//! each. `specs/Owed.antt` says what a pair of paths owes, `specs/Obligations.antt` what the obligation is.
 #![tactic(auto)]
 
 mod entry;

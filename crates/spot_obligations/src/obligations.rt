@@ -5,6 +5,7 @@ ghost use Rattle.std.specs.Prelude.{◌≡◌, ◌==◌, true, Some, IfOk};
 ghost use Rattle.toy_imp.specs.Faults as faults;
 ghost use Rattle.entry_pairs.specs.CutAnswers.{may_be_entry};
 ghost use Rattle.spot_obligations.specs.Obligations as spec;
+ghost use Rattle.spot_obligations.specs.Obligations.{weighed, obligation_at, of_pair, of_paths, of_entry};
 ghost use Rattle.spot_obligations.specs.Owed.{pair_of};
 ghost use Rattle.spot_obligations.specs.PathsOfEntry.{is_exit, are_inside};
 ghost use Rattle.toy_imp.specs.Points.{exit_point};
@@ -31,7 +32,7 @@ fn obligation_of_pair(
     number: Option<u32>,
     used: u32,
 ) -> Result<ObligationAt, NoMemory>
-    ensures { IfOk result (λ a. a ≡ spec.weighed (spec.with_known rule.now used (spec.with_right rule.now entries.now known.now left.now number (Some right.now)))) }
+    ensures { IfOk result (λ a. a ≡ of_pair rule.now entries.now known.now left.now right.now number used) }
 {
     let what = paths_owe(rule.conditions.as_slice(), entries, left.stop, right.stop);
     match owed_at(alloc, what, number)? {
@@ -45,8 +46,9 @@ fn obligation_of_pair(
     }
 }
 
-/// The obligation at a spot whose entry has these conjuncts and these paths, with `used` conjuncts known. It is what
-/// `obligation` answers, for callers that keep the paths of an entry at hand; the number of the entry is not looked at.
+/// The obligation at a spot whose entry has these conjuncts and these paths, with `used` conjuncts
+/// known. It is what `obligation` answers, for callers that keep the paths of an entry at hand; the
+/// number of the entry is not looked at.
 #[tactic(auto, unfolding(crate::specs::Obligations::among_paths))]
 pub fn obligation_among(
     alloc: Global,
@@ -57,7 +59,7 @@ pub fn obligation_among(
     spot: Spot,
     used: u32,
 ) -> Result<ObligationAt, NoMemory>
-    ensures { IfOk result (λ a. a ≡ spec.weighed (spec.with_known rule.now used (spec.among_paths rule.now entries.now known.now all.now.lefts all.now.rights spot))) }
+    ensures { IfOk result (λ a. a ≡ of_paths rule.now entries.now known.now all.now spot used) }
 {
     match all.lefts.as_slice().get(spot.left as usize) {
         None => Ok(ObligationAt::Absent),
@@ -103,7 +105,7 @@ fn obligation_from(
     requires well_formed { faults.well_formed rule.now ≡ true }
     requires simulates { faults.is_simulate rule.now.method ≡ true }
     requires inside { may_be_entry rule.now (pair_of e.now) ≡ true }
-    ensures { IfOk result (λ a. a ≡ spec.weighed (spec.with_known rule.now used (spec.with_entry rule.now points.now entries.now spot (Some e.now)))) }
+    ensures { IfOk result (λ a. a ≡ of_entry rule.now points.now entries.now e.now spot used) }
 {
     if is_exit(rule, e) {
         return Ok(ObligationAt::Absent);
@@ -135,7 +137,7 @@ fn obligation_under(
     requires well_formed { faults.well_formed rule.now ≡ true }
     requires simulates { faults.is_simulate rule.now.method ≡ true }
     requires inside { are_inside rule.now entries.now ≡ true }
-    ensures { IfOk result (λ a. a ≡ spec.weighed (spec.obligation_at rule.now points.now entries.now spot used)) }
+    ensures { IfOk result (λ a. a ≡ weighed (obligation_at rule.now points.now entries.now spot used)) }
 {
     match entries.get(spot.entry as usize) {
         None => Ok(ObligationAt::Absent),
@@ -143,11 +145,12 @@ fn obligation_under(
     }
 }
 
-/// The obligation at a spot of these entries, with the first `used` conjuncts of its entry known. Each entry is the
-/// pair of exits or has both points before its exit; the rule is well formed and of method simulate.
-/// `Absent` where there is no such spot, where the rule has no cut points within the limits or the paths from the
-/// spot's points pass one, and where `used` is greater than the number of the entry's conjuncts; else `Heavy` where
-/// it has more than 4,096 nodes. `NoMemory` comes where memory runs out, or where a side has 2^32 - 1 points or more.
+/// The obligation at a spot of these entries, with the first `used` conjuncts of its entry known. Each
+/// entry is the pair of exits or has both points before them; the rule is well formed and of method
+/// simulate. `Absent` where there is no such spot, where the rule has no cut points within the limits or
+/// the paths from the spot's points pass one, and where `used` is greater than the number of the entry's
+/// conjuncts; else `Heavy` where it has more than 4,096 nodes. `NoMemory` comes where memory runs out, or
+/// where a side has 2^32 - 1 points or more.
 #[tactic(auto, unfolding(crate::specs::Obligations::obligation))]
 pub fn obligation(
     alloc: Global,

@@ -1,6 +1,6 @@
 //! What a pair of paths owes where they stop. `specs/Owed.antt` says what it is.
 
-ghost use Rattle.std.specs.Prelude.{◌≡◌, find, MatchOption, None, Some, IfOk, IfSome, IfNone, slice_get};
+ghost use Rattle.std.specs.Prelude.{◌≡◌, find, IfOk, slice_get};
 ghost use Rattle.spot_obligations.specs.Owed as spec;
 ghost use Rattle.spot_obligations.specs.Owed.{stands_at, owed_of};
 

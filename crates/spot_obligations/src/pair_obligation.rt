@@ -1,4 +1,5 @@
-//! The obligation of a pair of paths and a conjunct that they owe, built, or only weighed where it has too many nodes.
+//! The obligation of a pair of paths and a conjunct that they owe, built, or only weighed where it has too
+//! many nodes.
 //! `specs/Obligations.antt` says what it is.
 
 ghost use Rattle.std.specs.Prelude.{◌≡◌, map, Some, nat_lt, IfOk};
@@ -7,6 +8,7 @@ ghost use Rattle.rule_terms.specs.Counts as counts;
 ghost use Rattle.parallel_wp.specs.Precondition.{both_literals, precondition};
 ghost use Rattle.parallel_wp.specs.PreconditionLaws.{counted_with};
 ghost use Rattle.spot_obligations.specs.Obligations as spec;
+ghost use Rattle.spot_obligations.specs.Obligations.{obligation_of, is_heavy, weighed_of};
 
 use crate::obligation_at::ObligationAt;
 use parallel_wp::{goal_at, weigh};
@@ -57,7 +59,7 @@ fn of_rule(
     path: Items<Literal>,
     goal: Conjunct,
 ) -> Result<Obligation, NoMemory>
-    ensures { IfOk result (λ ob. ob ≡ record { params = map (λ p. p.kind) rule.now.params; conditions = rule.now.conditions; known = known; path = path; goal = goal }) }
+    ensures { IfOk result (λ ob. ob ≡ spec.of_rule rule.now known path goal) }
 {
     let params = kinds_of(alloc, rule.params.as_slice())?;
     let conditions = copy_conditions(alloc, rule.conditions.as_slice())?;
@@ -70,7 +72,8 @@ fn of_rule(
     })
 }
 
-/// The obligation of a pair of paths and a conjunct that they owe, with these conjuncts known, whatever its size.
+/// The obligation of a pair of paths and a conjunct that they owe, with these conjuncts known, whatever
+/// its size.
 #[tactic(auto, unfolding(crate::specs::Obligations::obligation_of))]
 pub fn obligation_of(
     alloc: Global,
@@ -80,7 +83,7 @@ pub fn obligation_of(
     right: &Path,
     goal: &Conjunct,
 ) -> Result<Obligation, NoMemory>
-    ensures { IfOk result (λ ob. ob ≡ spec.obligation_of rule.now known.now left.now right.now goal.now) }
+    ensures { IfOk result (λ ob. ob ≡ obligation_of rule.now known.now left.now right.now goal.now) }
 {
     let known = copy_conjuncts(alloc, known)?;
     let path = literals_of(alloc, left, right)?;
@@ -101,13 +104,13 @@ fn known_nodes(known: &[Conjunct]) -> u64
 // Whether that obligation has more nodes than are built. Takes no memory.
 #[tactic(auto, using(crate::proofs::Weighing::passes_most))]
 fn is_heavy(rule: &Rule, known: &[Conjunct], left: &Path, right: &Path, goal: &Conjunct) -> bool
-    ensures { result ≡ nat_lt 4096 (obligation_nodes (spec.obligation_of rule.now known.now left.now right.now goal.now)) }
+    ensures { result ≡ is_heavy rule.now known.now left.now right.now goal.now }
 {
     known_nodes(known).saturating_add(weigh(left, right, goal)) > MOST_NODES
 }
 
-/// The obligation of a pair of paths and a conjunct that they owe, with these conjuncts known; `Heavy`, and not
-/// built, where it has more than 4,096 nodes.
+/// The obligation of a pair of paths and a conjunct that they owe, with these conjuncts known; `Heavy`,
+/// and not built, where it has more than 4,096 nodes.
 pub fn weighed_obligation(
     alloc: Global,
     rule: &Rule,
@@ -116,7 +119,7 @@ pub fn weighed_obligation(
     right: &Path,
     goal: &Conjunct,
 ) -> Result<ObligationAt, NoMemory>
-    ensures { IfOk result (λ a. a ≡ spec.weighed (Some (spec.obligation_of rule.now known.now left.now right.now goal.now))) }
+    ensures { IfOk result (λ a. a ≡ weighed_of rule.now known.now left.now right.now goal.now) }
 {
     if is_heavy(rule, known, left, right, goal) {
         return Ok(ObligationAt::Heavy);

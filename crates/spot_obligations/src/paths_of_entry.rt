@@ -1,4 +1,5 @@
-//! The paths of both sides from an entry. `specs/PathsOfEntry.antt` says which they are, and when there are none.
+//! The paths of both sides from an entry. `specs/PathsOfEntry.antt` says which they are, and when there
+//! are none.
 
 ghost use Rattle.std.specs.Prelude.{◌≡◌, ◌<◌, true};
 ghost use Rattle.toy_imp.specs.Faults.{well_formed, is_simulate};
