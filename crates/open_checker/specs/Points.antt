@@ -18,9 +18,9 @@ pub record IsFirstFailing {X : Type 0} (passes : X → Bool) (items : List X) (k
   pub before : list_all passes (take k items) ≡ true
   pub here : option_map_or passes (slice_get items k) true ≡ false
 
--- all items pass the test, or the first that fails it is found
-abbrev pub AllPass : {X : Type 0} → (X → Bool) → List X → Option ℕ → Type 0
-AllPass passes items found = MatchOption found (list_all passes items ≡ true) (IsFirstFailing passes items)
+-- the first item that fails a test is found, or all pass
+abbrev pub FindsFailing : {X : Type 0} → (X → Bool) → List X → Option ℕ → Type 0
+FindsFailing passes items found = MatchOption found (list_all passes items ≡ true) (IsFirstFailing passes items)
 
 -- ---- stores of one class have one flag, and so have tests of one parameter at stores of one class
 abbrev pub same_flag : Bool → Bool → Bool

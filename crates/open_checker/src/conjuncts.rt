@@ -4,7 +4,7 @@
 ghost use Rattle.std.specs.Prelude.{◌≡◌, ◌↔◌, IsTrue};
 ghost use Rattle.std.specs.List.{list_all};
 ghost use Rattle.open_checker.specs.Marks.{literal_true, conjunct_true};
-ghost use Rattle.open_checker.specs.Points.{GoalFails, AllPass};
+ghost use Rattle.open_checker.specs.Points.{GoalFails, FindsFailing};
 
 use crate::escape::Escape;
 use crate::truth::{is_given_true, is_true_literal};
@@ -14,7 +14,7 @@ use toy_imp::Kind;
 // The place of the first literal that is false.
 #[tactic(auto, using(crate::proofs::Places::passes_next, crate::proofs::Places::first_failing))]
 fn first_false(params: &[Kind], e: &Escape, xs: &[Literal]) -> Option<usize>
-    ensures { AllPass (literal_true params.now e.now) xs.now result }
+    ensures { FindsFailing (literal_true params.now e.now) xs.now result }
 {
     for (k, x) in xs.iter().enumerate() {
         if !is_true_literal(params, e, x) {
@@ -45,7 +45,7 @@ fn is_true_conjunct(params: &[Kind], e: &Escape, c: &Conjunct) -> bool
 
 #[tactic(auto, using(crate::proofs::Places::passes_next, crate::proofs::Places::first_failing))]
 fn first_broken(params: &[Kind], e: &Escape, cs: &[Conjunct]) -> Option<usize>
-    ensures { AllPass (conjunct_true params.now e.now) cs.now result }
+    ensures { FindsFailing (conjunct_true params.now e.now) cs.now result }
 {
     for (k, c) in cs.iter().enumerate() {
         if !is_true_conjunct(params, e, c) {
@@ -58,7 +58,7 @@ fn first_broken(params: &[Kind], e: &Escape, cs: &[Conjunct]) -> Option<usize>
 /// The place of the first known conjunct that is false in an escape: its `when` literals are true,
 /// and what it gives is not. `None` exactly where each is true.
 pub fn broken_known(ob: &Obligation, e: &Escape) -> Option<usize>
-    ensures { AllPass (conjunct_true ob.now.params e.now) ob.now.known result }
+    ensures { FindsFailing (conjunct_true ob.now.params e.now) ob.now.known result }
 {
     first_broken(ob.params.as_slice(), e, ob.known.as_slice())
 }
@@ -66,7 +66,7 @@ pub fn broken_known(ob: &Obligation, e: &Escape) -> Option<usize>
 /// The place of the first literal of the path that is false in an escape. `None` exactly where each
 /// is true.
 pub fn broken_path(ob: &Obligation, e: &Escape) -> Option<usize>
-    ensures { AllPass (literal_true ob.now.params e.now) ob.now.path result }
+    ensures { FindsFailing (literal_true ob.now.params e.now) ob.now.path result }
 {
     first_false(ob.params.as_slice(), e, ob.path.as_slice())
 }

@@ -2,7 +2,7 @@
 //! `specs/Points.antt` says which flags are compared.
 
 ghost use Rattle.std.specs.Prelude.{◌≡◌};
-ghost use Rattle.open_checker.specs.Points.{ends_alike, ends_as_its_class, AllPass};
+ghost use Rattle.open_checker.specs.Points.{ends_alike, ends_as_its_class, FindsFailing};
 ghost use Rattle.open_checker.specs.Points.{one_test, holds_alike, holds_as_its_class};
 
 use crate::escape::{Escape, StoreMark, TestMark};
@@ -28,7 +28,7 @@ fn ends_as_its_class(stores: &[StoreMark], m: &StoreMark) -> bool
 
 #[tactic(auto, using(crate::proofs::Places::passes_next, crate::proofs::Places::first_failing))]
 fn first_unlike_ends(stores: &[StoreMark]) -> Option<usize>
-    ensures { AllPass (ends_as_its_class stores.now) stores.now result }
+    ensures { FindsFailing (ends_as_its_class stores.now) stores.now result }
 {
     for (k, m) in stores.iter().enumerate() {
         if !ends_as_its_class(stores, m) {
@@ -41,7 +41,7 @@ fn first_unlike_ends(stores: &[StoreMark]) -> Option<usize>
 /// The place of the first store mark with another `ends` flag than some mark of its class. `None`
 /// exactly where the stores of each class have one flag. It compares each two marks at most.
 pub fn unlike_ends(e: &Escape) -> Option<usize>
-    ensures { AllPass (ends_as_its_class e.now.stores) e.now.stores result }
+    ensures { FindsFailing (ends_as_its_class e.now.stores) e.now.stores result }
 {
     first_unlike_ends(e.stores.as_slice())
 }
@@ -72,7 +72,7 @@ fn holds_as_its_class(stores: &[StoreMark], tests: &[TestMark], m: &TestMark) ->
 
 #[tactic(auto, using(crate::proofs::Places::passes_next, crate::proofs::Places::first_failing))]
 fn first_unlike_tests(stores: &[StoreMark], tests: &[TestMark]) -> Option<usize>
-    ensures { AllPass (holds_as_its_class stores.now tests.now) tests.now result }
+    ensures { FindsFailing (holds_as_its_class stores.now tests.now) tests.now result }
 {
     for (k, m) in tests.iter().enumerate() {
         if !holds_as_its_class(stores, tests, m) {
@@ -86,7 +86,7 @@ fn first_unlike_tests(stores: &[StoreMark], tests: &[TestMark]) -> Option<usize>
 /// store of the same class. `None` exactly where all such marks have one flag. It takes two
 /// look-ups of stores for each two marks of one parameter.
 pub fn unlike_tests(e: &Escape) -> Option<usize>
-    ensures { AllPass (holds_as_its_class e.now.stores e.now.tests) e.now.tests result }
+    ensures { FindsFailing (holds_as_its_class e.now.stores e.now.tests) e.now.tests result }
 {
     first_unlike_tests(e.stores.as_slice(), e.tests.as_slice())
 }

@@ -11,6 +11,7 @@ pub mod laws;
 mod likeness;
 mod marks;
 mod numbers;
+mod once;
 mod truth;
 
 pub use conjuncts::{broken_known, broken_path, goal_fails};
@@ -19,4 +20,5 @@ pub use flags::{unlike_ends, unlike_tests};
 pub use likeness::{unlike_store, unlike_stores, unlike_value, unlike_values};
 pub use marks::{name_class, store_mark, test_mark, value_mark};
 pub use numbers::{broken_number, large_number};
+pub use once::is_listed_once;
 pub use truth::{is_true, is_true_literal};

@@ -8,7 +8,7 @@ ghost use Rattle.open_checker.specs.Likeness.{stores_agree, values_agree, indice
 ghost use Rattle.open_checker.specs.Likeness.{like_stores, like_values};
 ghost use Rattle.open_checker.specs.Likeness.{store_agrees_with, value_agrees_with};
 ghost use Rattle.open_checker.specs.Likeness.{store_agrees, value_agrees};
-ghost use Rattle.open_checker.specs.Points.{AllPass};
+ghost use Rattle.open_checker.specs.Points.{FindsFailing};
 
 use crate::escape::{Escape, StoreMark, ValueMark};
 use crate::truth::{names_agree, one_class, one_value};
@@ -113,7 +113,7 @@ fn first_unlike_store(
     m: &StoreMark,
     marks: &[StoreMark],
 ) -> Option<usize>
-    ensures { AllPass (store_agrees_with params.now e.now m.now) marks.now result }
+    ensures { FindsFailing (store_agrees_with params.now e.now m.now) marks.now result }
 {
     for (k, n) in marks.iter().enumerate() {
         if !store_agrees_with(params, e, m, n) {
@@ -144,7 +144,7 @@ fn store_agrees(params: &[Kind], e: &Escape, m: &StoreMark) -> bool
 
 #[tactic(auto, using(crate::proofs::Places::passes_next, crate::proofs::Places::first_failing))]
 fn first_of_unlike_stores(params: &[Kind], e: &Escape, marks: &[StoreMark]) -> Option<usize>
-    ensures { AllPass (store_agrees params.now e.now) marks.now result }
+    ensures { FindsFailing (store_agrees params.now e.now) marks.now result }
 {
     for (k, m) in marks.iter().enumerate() {
         if !store_agrees(params, e, m) {
@@ -158,7 +158,7 @@ fn first_of_unlike_stores(params: &[Kind], e: &Escape, marks: &[StoreMark]) -> O
 /// have not one class. `None` exactly where all like store terms of the escape agree. It
 /// compares each two marks, and looks up the arguments of two terms of one constructor.
 pub fn unlike_stores(params: &[Kind], e: &Escape) -> Option<usize>
-    ensures { AllPass (store_agrees params.now e.now) e.now.stores result }
+    ensures { FindsFailing (store_agrees params.now e.now) e.now.stores result }
 {
     first_of_unlike_stores(params, e, e.stores.as_slice())
 }
@@ -166,7 +166,7 @@ pub fn unlike_stores(params: &[Kind], e: &Escape) -> Option<usize>
 /// The place of the first mark that this store mark does not agree with. `None` exactly where it
 /// agrees with each.
 pub fn unlike_store(params: &[Kind], e: &Escape, m: &StoreMark) -> Option<usize>
-    ensures { AllPass (store_agrees_with params.now e.now m.now) e.now.stores result }
+    ensures { FindsFailing (store_agrees_with params.now e.now m.now) e.now.stores result }
 {
     first_unlike_store(params, e, m, e.stores.as_slice())
 }
@@ -179,7 +179,7 @@ fn first_unlike_value(
     m: &ValueMark,
     marks: &[ValueMark],
 ) -> Option<usize>
-    ensures { AllPass (value_agrees_with params.now e.now m.now) marks.now result }
+    ensures { FindsFailing (value_agrees_with params.now e.now m.now) marks.now result }
 {
     for (k, n) in marks.iter().enumerate() {
         if !value_agrees_with(params, e, m, n) {
@@ -210,7 +210,7 @@ fn value_agrees(params: &[Kind], e: &Escape, m: &ValueMark) -> bool
 
 #[tactic(auto, using(crate::proofs::Places::passes_next, crate::proofs::Places::first_failing))]
 fn first_of_unlike_values(params: &[Kind], e: &Escape, marks: &[ValueMark]) -> Option<usize>
-    ensures { AllPass (value_agrees params.now e.now) marks.now result }
+    ensures { FindsFailing (value_agrees params.now e.now) marks.now result }
 {
     for (k, m) in marks.iter().enumerate() {
         if !value_agrees(params, e, m) {
@@ -224,7 +224,7 @@ fn first_of_unlike_values(params: &[Kind], e: &Escape, marks: &[ValueMark]) -> O
 /// have not one number. `None` exactly where all like value terms of the escape agree. It
 /// compares each two marks, and looks up the arguments of two terms of one constructor.
 pub fn unlike_values(params: &[Kind], e: &Escape) -> Option<usize>
-    ensures { AllPass (value_agrees params.now e.now) e.now.values result }
+    ensures { FindsFailing (value_agrees params.now e.now) e.now.values result }
 {
     first_of_unlike_values(params, e, e.values.as_slice())
 }
@@ -232,7 +232,7 @@ pub fn unlike_values(params: &[Kind], e: &Escape) -> Option<usize>
 /// The place of the first mark that this value mark does not agree with. `None` exactly where it
 /// agrees with each.
 pub fn unlike_value(params: &[Kind], e: &Escape, m: &ValueMark) -> Option<usize>
-    ensures { AllPass (value_agrees_with params.now e.now m.now) e.now.values result }
+    ensures { FindsFailing (value_agrees_with params.now e.now m.now) e.now.values result }
 {
     first_unlike_value(params, e, m, e.values.as_slice())
 }

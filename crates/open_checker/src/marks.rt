@@ -20,7 +20,7 @@ fn is_name(kind: Kind) -> bool
 }
 
 // How many of the parameters are of kind name.
-fn count_names(params: &[Kind]) -> usize
+pub fn count_names(params: &[Kind]) -> usize
     ensures { result ≡ count_names params.now }
 {
     let mut n = 0;

@@ -6,7 +6,7 @@ ghost use Rattle.std.specs.Ordering.{int_eq};
 ghost use Rattle.law_clauses.specs.Offsets.{offset};
 ghost use Rattle.open_checker.specs.Marks.{value_mark};
 ghost use Rattle.open_checker.specs.Points.{is_itself, is_that_number, is_offset, number_fits};
-ghost use Rattle.open_checker.specs.Points.{is_small, AllPass};
+ghost use Rattle.open_checker.specs.Points.{is_small, FindsFailing};
 
 use crate::escape::{Escape, ValueMark};
 use crate::marks::value_mark;
@@ -62,7 +62,7 @@ fn number_fits(marks: &[ValueMark], m: &ValueMark) -> bool
 
 #[tactic(auto, using(crate::proofs::Places::passes_next, crate::proofs::Places::first_failing))]
 fn first_unfit(marks: &[ValueMark]) -> Option<usize>
-    ensures { AllPass (number_fits marks.now) marks.now result }
+    ensures { FindsFailing (number_fits marks.now) marks.now result }
 {
     for (k, m) in marks.iter().enumerate() {
         if !number_fits(marks, m) {
@@ -76,7 +76,7 @@ fn first_unfit(marks: &[ValueMark]) -> Option<usize>
 /// is some term plus or minus a constant, and that term has no mark or has not the number less the
 /// constant. `None` exactly where each fits. It takes a look-up for each such term.
 pub fn broken_number(e: &Escape) -> Option<usize>
-    ensures { AllPass (number_fits e.now.values) e.now.values result }
+    ensures { FindsFailing (number_fits e.now.values) e.now.values result }
 {
     first_unfit(e.values.as_slice())
 }
@@ -89,7 +89,7 @@ fn is_small(m: &ValueMark) -> bool
 
 #[tactic(auto, using(crate::proofs::Places::passes_next, crate::proofs::Places::first_failing))]
 fn first_large(marks: &[ValueMark]) -> Option<usize>
-    ensures { AllPass is_small marks.now result }
+    ensures { FindsFailing is_small marks.now result }
 {
     for (k, m) in marks.iter().enumerate() {
         if !is_small(m) {
@@ -102,7 +102,7 @@ fn first_large(marks: &[ValueMark]) -> Option<usize>
 /// The place of the first value mark whose number has a magnitude above 2^100. `None` exactly where
 /// no number has.
 pub fn large_number(e: &Escape) -> Option<usize>
-    ensures { AllPass is_small e.now.values result }
+    ensures { FindsFailing is_small e.now.values result }
 {
     first_large(e.values.as_slice())
 }
