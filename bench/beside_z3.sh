@@ -48,7 +48,8 @@ compare() {
     start3=$(best "$folder/empty.smt2" z3 -in -smt2)
     theirs=$(seconds "$folder/$name.smt2" timeout "$limit" z3 -in -smt2)
     said="$(grep -c '^sat' "$folder/out" || true) $(grep -c '^unsat' "$folder/out" || true)"
-    awk -v name="$name" -v a="$ours" -v s="$start" -v b="$theirs" -v t="$start3" -v want="$want" -v said="$said" -v answers="$answers" \
+    awk -v name="$name" -v a="$ours" -v s="$start" -v b="$theirs" -v t="$start3" -v want="$want" \
+      -v said="$said" -v answers="$answers" \
         -v limit="$limit" 'BEGIN {
             ended = b < limit
             ratio = (b - t) / (a - s > 0.0001 ? a - s : 0.0001)

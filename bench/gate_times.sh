@@ -1,7 +1,8 @@
 #!/usr/bin/env bash
-# Runs the gate, or with words `rt ci` on these crates, and prints for each crate the seconds of processor time that the prover took:
-# `bench/gate_times.sh [--anew] [NAME..]`. A line is a crate, what was proved (itself, its tests, or its edits with the check that they
-# stand on), the seconds, and of how many processes. It looks at the processes once a second, and misses what one takes after the last look.
+# Runs the gate, or with words `rt ci` on these crates, and prints for each crate the seconds of processor time that the
+# prover took: `bench/gate_times.sh [--anew] [NAME..]`. A line is a crate, what was proved (itself, its tests, or its
+# edits with the check that they stand on), the seconds, and of how many processes. It looks at the processes once a
+# second, and misses what one takes after the last look.
 set -euo pipefail
 folder=$(mktemp -d)
 trap 'rm -rf "$folder"' EXIT
@@ -53,6 +54,7 @@ tail -n 1 "$folder/log"
 awk -v hertz="$hertz" '
   { last[$1] = $4; what[$1] = $2 " " $3 }
   END { for (p in last) { ticks[what[p]] += last[p]; count[what[p]]++ }
-        for (w in ticks) printf "%-18s %-6s %7.1f s of %d\n", substr(w, 1, index(w, " ") - 1), substr(w, index(w, " ") + 1), ticks[w] / hertz, count[w] }
+        for (w in ticks) printf "%-18s %-6s %7.1f s of %d\n",
+          substr(w, 1, index(w, " ") - 1), substr(w, index(w, " ") + 1), ticks[w] / hertz, count[w] }
 ' "$folder/looks" | sort
 exit "$status"

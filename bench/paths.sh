@@ -1,6 +1,6 @@
 #!/usr/bin/env bash
-# Times the walk over a side of 8 `if`s, which has 256 paths, beside that over one of 64 `if`s, which has 2^64 walks and passes a
-# limit: the limit is to be met in no more than twice the time.
+# Times the walk over a side of 8 `if`s, which has 256 paths, beside that over one of 64 `if`s, which has 2^64 walks and
+# passes a limit: the limit is to be met in no more than twice the time.
 set -euo pipefail
 # shellcheck source=bench/timing.sh
 source "$(dirname "${BASH_SOURCE[0]}")/timing.sh"
@@ -29,4 +29,5 @@ tests 64 > "$folder/sixty_four"
 answers "$folder/eight" "paths 256"
 answers "$folder/sixty_four" "limit Paths"
 ratio "a side of 64 ifs, a limit, against one of 8, 256 paths; 200 times each" \
-  "$(processor_seconds 5 1 "$folder/sixty_four" "$bench" paths 200)" "$(processor_seconds 5 1 "$folder/eight" "$bench" paths 200)" 2
+  "$(processor_seconds 5 1 "$folder/sixty_four" "$bench" paths 200)" \
+  "$(processor_seconds 5 1 "$folder/eight" "$bench" paths 200)" 2

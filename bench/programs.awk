@@ -1,5 +1,5 @@
-# Writes a seeded program of at most `size` bytes; with c = 1 a like one in C; with sections = 1 as sections of programs of
-# some 4 KiB, and a rule before each.
+# Writes a seeded program of at most `size` bytes; with c = 1 a like one in C; with sections = 1 as sections of programs
+# of some 4 KiB, and a rule before each.
 function random(below) {            # Lehmer, exact in a double
   state = (state * 48271) % 2147483647
   return state % below

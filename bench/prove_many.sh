@@ -1,6 +1,6 @@
 #!/usr/bin/env bash
-# Times `pec prove` on 2,000 rules beside 500: four times the rules take four times the time, though each title is looked
-# for among the others.
+# Times `pec prove` on 2,000 rules beside 500: four times the rules take four times the time, though each title is
+# looked for among the others.
 set -euo pipefail
 timed=pec
 # shellcheck source=bench/timing.sh

@@ -1,6 +1,6 @@
 #!/usr/bin/env bash
-# Times a leaf of 4,000 steps against one of 1,000, and says how many steps a second `refutes` looks at; where metamath is
-# installed, beside the steps a second that it verifies of theorems of as many steps.
+# Times a leaf of 4,000 steps against one of 1,000, and says how many steps a second `refutes` looks at; where metamath
+# is installed, beside the steps a second that it verifies of theorems of as many steps.
 set -euo pipefail
 # shellcheck source=bench/timing.sh
 source "$(dirname "${BASH_SOURCE[0]}")/timing.sh"
@@ -45,7 +45,8 @@ if command -v metamath > /dev/null; then
   theorems 50 4000 > "$folder/theorems.mm"
   took=$(verifies "$folder/theorems.mm")
   awk -v took="$took" -v large="$large" 'BEGIN {
-    printf "metamath, 50 theorems of 4,000 steps: %.4f s, %.0f steps a second; refutes is %.1f times as fast\n", took, 50 * 4000 / took, (4000 * 4000 / large) / (50 * 4000 / took)
+    printf "metamath, 50 theorems of 4,000 steps: %.4f s, %.0f steps a second; refutes is %.1f times as fast\n",
+      took, 50 * 4000 / took, (4000 * 4000 / large) / (50 * 4000 / took)
   }'
 fi
 exit "$status"

@@ -1,7 +1,7 @@
 # Prints seeded systems of linear rows for `pec_bench rows`, or with smt=1 the same systems for z3 over the reals.
 # awk -v seed=1 -v systems=200 -v variables=8 -v rows=24 [-v smt=1] -f rows_systems.awk
-# A row has at most two variables, with coefficients from -2 to 2, like most premises on loops. Every second system has no
-# point: the last row is the negation of a sum of others.
+# A row has at most two variables, with coefficients from -2 to 2, like most premises on loops. Every second system has
+# no point: the last row is the negation of a sum of others.
 
 function random(below) {            # Lehmer's generator, exact in a double
     state = (state * 48271) % 2147483647

@@ -5,7 +5,8 @@ set -euo pipefail
 # shellcheck source=bench/timing.sh
 source "$(dirname "${BASH_SOURCE[0]}")/timing.sh"
 
-# declared SIZE NAMES: a rule whose declarations are SIZE bytes, with so many different names, told in turn again and again.
+# declared SIZE NAMES: a rule whose declarations are SIZE bytes, with so many different names, told in turn again and
+# again.
 declared() {
   awk -v size="$1" -v names="$2" 'BEGIN {
     printf "stmt"

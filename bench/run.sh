@@ -1,6 +1,7 @@
 #!/usr/bin/env bash
-# Times the runner on 1,000,000 steps of three loop programs beside the same loops in python3, written in two ways: with the cells in
-# a dict by name and indices, which is a store as the language has it, and with plain variables and lists. Then 4 times the steps.
+# Times the runner on 1,000,000 steps of three loop programs beside the same loops in python3, written in two ways: with
+# the cells in a dict by name and indices, which is a store as the language has it, and with plain variables and lists.
+# Then 4 times the steps.
 set -euo pipefail
 # shellcheck source=bench/timing.sh
 source "$(dirname "${BASH_SOURCE[0]}")/timing.sh"
@@ -87,7 +88,9 @@ PYTHON
 # beside NAME OURS THEIRS LEAST: how many times as fast it is, and whether that is at least LEAST.
 beside() {
   awk -v name="$1" -v ours="$2" -v theirs="$3" -v least="$4" \
-    'BEGIN { r = theirs / ours; printf "%s: %.4f s, python3 %.4f s, %.1f times as fast (at least %s)\n", name, ours, theirs, r, least; exit r < least }'
+    'BEGIN { r = theirs / ours
+      printf "%s: %.4f s, python3 %.4f s, %.1f times as fast (at least %s)\n", name, ours, theirs, r, least
+      exit r < least }'
 }
 
 status=0

@@ -1,6 +1,6 @@
 #!/usr/bin/env bash
-# Times the counts and the universe of an obligation at its limits, 4,096 nodes with 48 store terms and 32 readings, each as a
-# ratio to one walk over the same terms that counts their nodes.
+# Times the counts and the universe of an obligation at its limits, 4,096 nodes with 48 store terms and 32 readings,
+# each as a ratio to one walk over the same terms that counts their nodes.
 set -euo pipefail
 # shellcheck source=bench/timing.sh
 source "$(dirname "${BASH_SOURCE[0]}")/timing.sh"

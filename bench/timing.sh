@@ -28,19 +28,21 @@ processor_seconds() {
 # ratio NAME A B MOST: prints A / B, and fails where it is MOST or more.
 ratio() {
   awk -v name="$1" -v a="$2" -v b="$3" -v most="$4" \
-    'BEGIN { r = a / b; printf "%s: %.4f s against %.4f s, ratio %.2f (below %s)\n", name, a, b, r, most; exit r >= most }'
+    'BEGIN { r = a / b
+      printf "%s: %.4f s against %.4f s, ratio %.2f (below %s)\n", name, a, b, r, most; exit r >= most }'
 }
 
 # instructions INPUT COMMAND..: how many instructions the command runs, INPUT as standard input.
 instructions() {
   local input=$1
   shift
-  valgrind --tool=callgrind --callgrind-out-file=/dev/null "$@" < "$input" 2>&1 > /dev/null | awk '/Collected/ { print $4 }'
+  valgrind --tool=callgrind --callgrind-out-file=/dev/null "$@" < "$input" 2>&1 > /dev/null |
+    awk '/Collected/ { print $4 }'
 }
 
-# four_times NAME ROUNDS TIMES COMMAND..: the processor time on $folder/large against that on $folder/small, a fourth of it. Where
-# time is linear the ratio is 4; it fails at 5 and above. Where valgrind is installed, it says first what the ratio of instructions
-# is, which no cache changes.
+# four_times NAME ROUNDS TIMES COMMAND..: the processor time on $folder/large against that on $folder/small, a fourth of
+# it. Where time is linear the ratio is 4; it fails at 5 and above. Where valgrind is installed, it says first what the
+# ratio of instructions is, which no cache changes.
 four_times() {
   local name=$1 rounds=$2 times=$3
   shift 3
@@ -52,8 +54,8 @@ four_times() {
     "$(processor_seconds "$rounds" "$times" "$folder/small" "$@")" 5
 }
 
-# beside_clang_format NAME MOST COMMAND..: the time on $folder/large against that of `clang-format`, where it is installed, on
-# $folder/large.c, as much C.
+# beside_clang_format NAME MOST COMMAND..: the time on $folder/large against that of `clang-format`, where it is
+# installed, on $folder/large.c, as much C.
 beside_clang_format() {
   local name=$1 most=$2
   shift 2
@@ -65,7 +67,8 @@ beside_clang_format() {
   fi
 }
 
-# The proved program that is timed, which `rt run` in its crate builds: `pec_bench`, unless the script names another one.
+# The proved program that is timed, which `rt run` in its crate builds: `pec_bench`, unless the script names another
+# one.
 timed=${timed:-pec_bench}
 bench=$(cd "$(dirname "${BASH_SOURCE[0]}")/.." && pwd)/crates/$timed/out/$timed
 if [ ! -x "$bench" ]; then
