@@ -1,0 +1,10 @@
+pub mod Counting
+pub mod Different
+pub mod Grown
+pub mod Growing
+pub mod Keeping
+pub mod Places
+pub mod PutItems
+pub mod PutTerms
+pub mod Rebuilt
+pub mod SameTerms

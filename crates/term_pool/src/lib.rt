@@ -1,0 +1,16 @@
+//! Terms by numbers: each different term once, parts before the whole, equality of terms in constant time.
+#![tactic(auto)]
+
+mod adding;
+mod building;
+mod count;
+pub mod laws;
+mod node;
+mod obligation;
+mod pool;
+mod pooled;
+
+pub use node::{Node, PooledPlace};
+pub use obligation::pool_obligation;
+pub use pool::Pool;
+pub use pooled::{PooledAtom, PooledConjunct, PooledLiteral, PooledObligation};
