@@ -1,3 +1,4 @@
+pub mod DifferentTerms
 pub mod EscapeLaws
 pub mod Indices
 pub mod Places
