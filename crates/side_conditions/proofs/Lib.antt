@@ -1,0 +1,4 @@
+mod Examples
+pub mod Forms
+pub mod Framing
+pub mod Within

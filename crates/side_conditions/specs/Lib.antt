@@ -1,0 +1,5 @@
+pub mod Each
+pub mod Frame
+pub mod FrameLaws
+pub mod Places
+pub mod Seeking

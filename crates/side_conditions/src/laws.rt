@@ -1,0 +1,30 @@
+//! The frame law and its parts, each the contract of a function that does nothing.
+//! The statements are in `specs/FrameLaws.antt`.
+
+ghost use Rattle.side_conditions.specs.FrameLaws.{FrameLaw, WorkTellsOutcome, WritesTellStore, OthersKept, WithinText};
+
+/// Steps from stores that agree on the cells that those from the first read: the same reads, the same
+/// writes of the same numbers, and the same work left.
+pub fn frame()
+    ensures { FrameLaw }
+{}
+
+/// Whether a run has ended or halted is told by the work that it leaves.
+pub fn work_tells_outcome()
+    ensures { WorkTellsOutcome }
+{}
+
+/// The store that steps leave is the first one with their writes done in order.
+pub fn writes_tell_store()
+    ensures { WritesTellStore }
+{}
+
+/// A cell that is not among the writes keeps its value.
+pub fn others_kept()
+    ensures { OthersKept }
+{}
+
+/// What a run of a block reads and writes is within the names of its text.
+pub fn within_text()
+    ensures { WithinText }
+{}
