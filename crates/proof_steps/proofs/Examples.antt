@@ -1,6 +1,5 @@
 -- Worked examples: which refutations of small obligations are right. They hold by computation alone.
 use Rattle.std.specs.Prelude.{◌≡◌, ℕ, pos, Bool, true, false, List, [], ◌∷◌, Some, None, refl, ℤ, negsuc}
-use Rattle.std.proofs.Common.{◌∙◌, ap}
 use Rattle.toy_imp.specs.declared.param.Kind.TheVariants as kind
 use Rattle.rule_terms.specs.Term.{StoreTerm, left_store, right_store, put, run, num, get, no_terms, ValueTerm}
 use Rattle.rule_terms.specs.Order.{store_cmp, value_cmp, terms_cmp}
@@ -16,15 +15,13 @@ use Rattle.proof_steps.specs.declared.refutation.By.TheVariants.{Given, Known, R
 use Rattle.proof_steps.specs.declared.refutation.By.{By}
 use Rattle.proof_steps.specs.declared.refutation.Step.{Step}
 use Rattle.proof_steps.specs.declared.refutation.SumRow.TheVariants.{Of}
-use Rattle.proof_steps.specs.declared.refutation.Refutation.TheOpen.{Refutation-F}
-use Rattle.proof_steps.specs.declared.refutation.Refutation.TheVariants.{Leaf}
+use Rattle.proof_steps.specs.Refutation.{leaf}
 use Rattle.proof_steps.specs.Cited.{cited}
 use Rattle.law_clauses.specs.Arguments.{store_top}
 use Rattle.proof_steps.specs.Replaced.{left_by_pair, left_by_pairs, alike, carried}
 use Rattle.proof_steps.specs.Sums.{bound_of, row_bound, adds_up}
 use Rattle.proof_steps.specs.Steps.{by_known, by_itself, by_law, all_negated, step_holds, summed}
-use Rattle.proof_steps.specs.Refutes.{is_absurd, leaf_closes, refutes_layer, refutes}
-use Rattle.proof_steps.proofs.Refuting.{refutes_leaf}
+use Rattle.proof_steps.specs.Refutes.{is_absurd, leaf_closes, refutes_under, refutes}
 
 abbrev pub yes : Atom → Literal
 yes a = record { sign = true; atom = a }
@@ -38,9 +35,9 @@ fact x = record { when = []; gives = Some x }
 abbrev pub step : Literal → By → Step
 step x why = record { gives = x; by = why }
 
-pub refutes_by : (ob : Obligation) (steps : List Step) (b : Bool) → refutes_layer ob (Refutation-F.Leaf steps) [] ≡ b → refutes ob (Leaf steps) ≡ b
+pub refutes_by : (ob : Obligation) (steps : List Step) (b : Bool) → refutes_under ob (leaf steps) [] ≡ b → refutes ob (leaf steps) ≡ b
 unfolding refutes
-refutes_by ob steps b e = ap (λ f. f []) (refutes_leaf ob steps) ∙ e
+refutes_by ob steps b e = e
 
 -- ---- equal stores are known to be equal
 abbrev stores_equal : Atom
@@ -52,12 +49,12 @@ kept = record { params = []; conditions = []; known = fact (yes stores_equal) �
 abbrev by_known_conjunct : ℕ → List Step
 by_known_conjunct k = step (no stores_equal) Given ∷ step (yes stores_equal) (Known k []) ∷ []
 
-right : refutes kept (Leaf (by_known_conjunct 0)) ≡ true
+right : refutes kept (leaf (by_known_conjunct 0)) ≡ true
 unfolding atom_same signed_same cited by_known step_holds is_absurd leaf_closes store_cmp
 right = refutes_by kept (by_known_conjunct 0) true refl
 
 -- there is no conjunct of number 1
-wrong : refutes kept (Leaf (by_known_conjunct 1)) ≡ false
+wrong : refutes kept (leaf (by_known_conjunct 1)) ≡ false
 unfolding atom_same signed_same cited by_known step_holds is_absurd leaf_closes store_cmp
 wrong = refutes_by kept (by_known_conjunct 1) false refl
 
@@ -74,12 +71,12 @@ by_replacing from =
     ∷ step (no (Ends (run 0 right_store))) Given
     ∷ []
 
-right_ends : refutes ends_alike (Leaf (by_replacing (1 ∷ []))) ≡ true
+right_ends : refutes ends_alike (leaf (by_replacing (1 ∷ []))) ≡ true
 unfolding atom_same signed_same cited by_known store_top left_by_pair left_by_pairs alike carried step_holds is_absurd leaf_closes store_cmp
 right_ends = refutes_by ends_alike (by_replacing (1 ∷ [])) true refl
 
 -- a cited step that is not used
-one_too_many : refutes ends_alike (Leaf (by_replacing (1 ∷ 1 ∷ []))) ≡ false
+one_too_many : refutes ends_alike (leaf (by_replacing (1 ∷ 1 ∷ []))) ≡ false
 unfolding atom_same signed_same cited by_known store_top left_by_pair left_by_pairs alike carried step_holds is_absurd leaf_closes store_cmp
 one_too_many = refutes_by ends_alike (by_replacing (1 ∷ 1 ∷ [])) false refl
 
@@ -111,20 +108,20 @@ by_short_law x = step (no (reads_one x)) Given ∷ step (yes (Ends written)) Giv
 abbrev by_uncited_law : ℕ → List Step
 by_uncited_law x = step (no (reads_one x)) Given ∷ step (yes (Ends written)) Given ∷ step (yes (reads_one x)) (Law 1 (clause x) 2 (1 ∷ [])) ∷ []
 
-equal_names : refutes (read 0) (Leaf (by_law_1 0)) ≡ true
+equal_names : refutes (read 0) (leaf (by_law_1 0)) ≡ true
 unfolding atom_same signed_same all_same cited by_itself by_law all_negated is_clause law_1 read_back unequal step_holds is_absurd leaf_closes store_cmp value_cmp terms_cmp
 equal_names = refutes_by (read 0) (by_law_1 0) true refl
 
 -- a name is not known to be another one
-other_names : refutes (read 1) (Leaf (by_law_1 1)) ≡ false
+other_names : refutes (read 1) (leaf (by_law_1 1)) ≡ false
 unfolding atom_same signed_same all_same cited by_itself by_law all_negated is_clause law_1 read_back unequal step_holds is_absurd leaf_closes store_cmp value_cmp terms_cmp
 other_names = refutes_by (read 1) (by_law_1 1) false refl
 
-no_names : refutes (read 1) (Leaf (by_short_law 1)) ≡ false
+no_names : refutes (read 1) (leaf (by_short_law 1)) ≡ false
 unfolding atom_same signed_same all_same cited by_law all_negated is_clause law_1 read_back unequal step_holds is_absurd leaf_closes store_cmp value_cmp terms_cmp
 no_names = refutes_by (read 1) (by_short_law 1) false refl
 
-uncited_names : refutes (read 1) (Leaf (by_uncited_law 1)) ≡ false
+uncited_names : refutes (read 1) (leaf (by_uncited_law 1)) ≡ false
 unfolding atom_same signed_same all_same cited by_law all_negated is_clause law_1 read_back unequal step_holds is_absurd leaf_closes store_cmp value_cmp terms_cmp
 uncited_names = refutes_by (read 1) (by_uncited_law 1) false refl
 
@@ -152,15 +149,15 @@ by_sum c =
     ∷ step (yes (AtMost first_value first_value c)) (Sum (Of 0 ∷ Of 1 ∷ []))
     ∷ []
 
-adds_up_to_less : refutes less_and_back (Leaf (by_sum (negsuc 0))) ≡ true
+adds_up_to_less : refutes less_and_back (leaf (by_sum (negsuc 0))) ≡ true
 unfolding atom_same signed_same bound_of row_bound adds_up summed step_holds is_absurd leaf_closes store_cmp value_cmp terms_cmp
 adds_up_to_less = refutes_by less_and_back (by_sum (negsuc 0)) true refl
 
 -- they add up to no less than -1, and 0 is no contradiction
-too_little : refutes less_and_back (Leaf (by_sum (negsuc 1))) ≡ false
+too_little : refutes less_and_back (leaf (by_sum (negsuc 1))) ≡ false
 unfolding atom_same signed_same bound_of row_bound adds_up summed step_holds is_absurd leaf_closes store_cmp value_cmp terms_cmp
 too_little = refutes_by less_and_back (by_sum (negsuc 1)) false refl
 
-not_absurd : refutes less_and_back (Leaf (by_sum (pos 0))) ≡ false
+not_absurd : refutes less_and_back (leaf (by_sum (pos 0))) ≡ false
 unfolding atom_same signed_same bound_of row_bound adds_up summed step_holds is_absurd leaf_closes store_cmp value_cmp terms_cmp
 not_absurd = refutes_by less_and_back (by_sum (pos 0)) false refl

@@ -13,4 +13,4 @@ pub mod StepTable
 pub mod Stepping
 pub mod Summed
 pub mod Summing
-pub mod Turning
+pub mod Walking

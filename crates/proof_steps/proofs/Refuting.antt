@@ -1,43 +1,67 @@
--- What the refuting of a split and of a leaf says, and induction over refutations.
-use Rattle.std.specs.Prelude.{◌≡◌, ◌≤◌, ℕ, ◌+◌, Bool, ◌&&◌, List, [], ◌∷◌}
-use Rattle.std.proofs.Common.{sym, ◌∙◌, ap, arith}
-use Rattle.rule_terms.specs.declared.obligation.Literal.{Literal}
+-- The parts of a refutation and what goes with them, part by part: as many distances and ways as parts, and a refutation that is
+-- right exactly where its parts are.
+use Rattle.std.specs.Prelude.{◌≡◌, ◌<◌, ℕ, suc, ◌+◌, Bool, true, false, ◌&&◌, List, [], ◌∷◌, ◌++◌, length, get_or, refl}
+use Rattle.std.proofs.Common.{sym, ◌∙◌, ap, drop, drop-cons, add-one, arith, length-append}
 use Rattle.rule_terms.specs.declared.obligation.Obligation.{Obligation}
 use Rattle.law_clauses.specs.Signed.{Signed, signed_of, negated}
-use Rattle.proof_steps.specs.declared.refutation.Step.{Step}
-use Rattle.proof_steps.specs.declared.refutation.Refutation.{Refutation, Split', fold-roll-Refutation}
-use Rattle.proof_steps.specs.declared.refutation.Refutation.TheOpen.{Refutation-F}
-use Rattle.proof_steps.specs.declared.refutation.Refutation.TheVariants.{Split, Leaf, rolls-Split, rolls-Leaf}
-use Rattle.proof_steps.specs.declared.refutation.Refutation.TheBlock.{more_of-Refutation, end_of-Refutation}
+use Rattle.proof_steps.specs.declared.refutation.Part.{Part}
+use Rattle.proof_steps.specs.Refutation.{Refutation, split, leaf, parts, distances}
 use Rattle.proof_steps.specs.Steps.{is_shallow}
-use Rattle.proof_steps.specs.Refutes.{given_at, leaf_closes, refutes_layer, refutes_under}
-use Rattle.proof_steps.specs.Turns.{rank, rank_layer}
+use Rattle.proof_steps.specs.Refutes.{given_at, leaf_closes, refutes_under}
+use Rattle.proof_steps.specs.Ways.{ways, part_right, parts_right}
 
-pub refutes_split : (ob : Obligation) (x : Literal) (a b : Refutation) → refutes_under ob (Split x a b) ≡ refutes_layer ob (Refutation-F.Split x (refutes_under ob a) (refutes_under ob b))
-refutes_split ob x a b = ap (refutes_under ob) (sym (rolls-Split x a b)) ∙ fold-roll-Refutation (List Signed → Bool) (refutes_layer ob) (Refutation-F.Split x a b)
+pub as_many_distances : (n : ℕ) (r : Refutation) → length (distances n r) ≡ length (parts r)
+as_many_distances n (leaf steps) = refl
+as_many_distances n (split x a b) =
+    ap suc (length-append (distances 1 a) (distances (suc (length (parts a))) b)
+    ∙ (λ j. as_many_distances 1 a j + as_many_distances (suc (length (parts a))) b j)
+    ∙ sym (length-append (parts a) (parts b)))
 
-pub refutes_leaf : (ob : Obligation) (steps : List Step) → refutes_under ob (Leaf steps) ≡ refutes_layer ob (Refutation-F.Leaf steps)
-refutes_leaf ob steps = ap (refutes_under ob) (sym (rolls-Leaf steps)) ∙ fold-roll-Refutation (List Signed → Bool) (refutes_layer ob) (Refutation-F.Leaf steps)
+pub as_many_ways : (before : List Signed) (r : Refutation) → length (ways before r) ≡ length (parts r)
+as_many_ways before (leaf steps) = refl
+as_many_ways before (split x a b) =
+    ap suc (length-append (ways (signed_of x ∷ before) a) (ways (negated (signed_of x) ∷ before) b)
+    ∙ (λ j. as_many_ways (signed_of x ∷ before) a j + as_many_ways (negated (signed_of x) ∷ before) b j)
+    ∙ sym (length-append (parts a) (parts b)))
 
-pub induction : (P : Refutation → Type 0) → ((x : Literal) (a b : Refutation) → P a → P b → P (Split x a b)) → ((steps : List Step) → P (Leaf steps)) → (p : Refutation) → P p
-unfolding Rattle.proof_steps.specs.declared.refutation.Refutation.TheBlock.shape-the_row-Refutation-0 Rattle.proof_steps.specs.declared.refutation.Refutation.TheBlock.hidden-the_row-Refutation-0 denote.Hole.Carrier.hidden
-induction P split leaf (Leaf steps) = leaf steps
-induction P split leaf (Split' l p (more_of-Refutation a end_of-Refutation) q (more_of-Refutation b end_of-Refutation)) = split l a b (induction P split leaf a) (induction P split leaf b)
+and_true : (b : Bool) → (b && true) ≡ b
+and_true true = refl
+and_true false = refl
 
--- ---- .. under literals that are assumed
-pub split_under : (ob : Obligation) (x : Literal) (a b : Refutation) (assumed : List Signed) →
-    refutes_under ob (Split x a b) assumed ≡ (is_shallow x && (refutes_under ob a (signed_of x ∷ assumed) && refutes_under ob b (negated (signed_of x) ∷ assumed)))
-split_under ob x a b assumed = λ j. refutes_split ob x a b j assumed
+and_more : (a b c : Bool) → (a && (b && c)) ≡ ((a && b) && c)
+and_more true b c = refl
+and_more false b c = refl
 
-pub leaf_under : (ob : Obligation) (steps : List Step) (assumed : List Signed) → refutes_under ob (Leaf steps) assumed ≡ leaf_closes ob (given_at ob assumed) [] steps
-leaf_under ob steps assumed = λ j. refutes_leaf ob steps j assumed
+right_behind : (ob : Obligation) (ps qs : List Part) (us vs : List (List Signed)) → length us ≡ length ps →
+    parts_right ob (ps ++ qs) (us ++ vs) ≡ (parts_right ob ps us && parts_right ob qs vs)
+right_behind ob [] qs [] vs e = refl
+right_behind ob [] qs (u ∷ us) vs e = absurd (omega arith)
+right_behind ob (p ∷ ps) qs [] vs e = absurd (omega arith)
+right_behind ob (p ∷ ps) qs (u ∷ us) vs e =
+    let h : length us ≡ length ps = omega arith in
+    ap (λ b. part_right ob p u && b) (right_behind ob ps qs us vs h) ∙ and_more (part_right ob p u) (parts_right ob ps us) (parts_right ob qs vs)
 
--- ---- how much there is to walk
-pub rank_split : (x : Literal) (a b : Refutation) → rank (Split x a b) ≡ rank a + rank b + 2
-rank_split x a b = ap rank (sym (rolls-Split x a b)) ∙ fold-roll-Refutation ℕ rank_layer (Refutation-F.Split x a b)
+pub all_right : (ob : Obligation) (r : Refutation) (before : List Signed) → parts_right ob (parts r) (ways before r) ≡ refutes_under ob r before
+all_right ob (leaf steps) before = and_true (leaf_closes ob (given_at ob before) [] steps)
+all_right ob (split x a b) before =
+    ap (λ c. is_shallow x && c)
+    (right_behind ob (parts a) (parts b) (ways (signed_of x ∷ before) a) (ways (negated (signed_of x) ∷ before) b) (as_many_ways (signed_of x ∷ before) a)
+    ∙ (λ j. all_right ob a (signed_of x ∷ before) j && all_right ob b (negated (signed_of x) ∷ before) j))
 
-rank_leaf : (steps : List Step) → rank (Leaf steps) ≡ 1
-rank_leaf steps = ap rank (sym (rolls-Leaf steps)) ∙ fold-roll-Refutation ℕ rank_layer (Refutation-F.Leaf steps)
+-- one part more
+pub next_right : (ob : Obligation) (ps : List Part) (ws : List (List Signed)) (i : ℕ) (d : Part) → i < length ps → length ws ≡ length ps →
+    parts_right ob (drop i ps) (drop i ws) ≡ (part_right ob (get_or ps i d) (get_or ws i []) && parts_right ob (drop (i + 1) ps) (drop (i + 1) ws))
+next_right ob ps ws i d h e =
+    let g : i < length ws = omega arith in
+    (λ j. parts_right ob (drop-cons ps i d h j) (drop-cons ws i [] g j))
+    ∙ (λ j. part_right ob (get_or ps i d) (get_or ws i []) && parts_right ob (drop (sym (add-one i) j) ps) (drop (sym (add-one i) j) ws))
 
-pub rank_some : (p : Refutation) → 1 ≤ rank p
-rank_some = induction (λ p. 1 ≤ rank p) (λ x a b ha hb. omega (arith, rank_split x a b)) (λ steps. omega (arith, rank_leaf steps))
+pub walk_step : (ob : Obligation) (r : Refutation) (before : List Signed) (ps : List Part) (i : ℕ) (p : Part) → ps ≡ parts r → i < length ps → p ≡ get_or ps i p →
+    parts_right ob (drop i (parts r)) (drop i (ways before r)) ≡ (part_right ob p (get_or (ways before r) i []) && parts_right ob (drop (i + 1) (parts r)) (drop (i + 1) (ways before r)))
+walk_step ob r before ps i p e h is =
+    let many : length ps ≡ length (parts r) = ap length e in
+    let g : i < length (parts r) = omega arith in
+    let rest : Bool = parts_right ob (drop (i + 1) (parts r)) (drop (i + 1) (ways before r)) in
+    next_right ob (parts r) (ways before r) i p g (as_many_ways before r)
+    ∙ (λ j. part_right ob (get_or (sym e j) i p) (get_or (ways before r) i []) && rest)
+    ∙ (λ j. part_right ob (sym is j) (get_or (ways before r) i []) && rest)

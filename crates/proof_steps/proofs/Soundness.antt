@@ -16,15 +16,13 @@ use Rattle.law_clauses.specs.Signed.{Signed, signed_of, all_signed, negated}
 use Rattle.law_clauses.proofs.Same.{or_cases, not_false, signed_is}
 use Rattle.law_clauses.proofs.Each.{Each, each_joined, each_of_all, any_found}
 use Rattle.law_clauses.proofs.Meant.{truth, IsTrueHere, Covers, signed_truth, signed_covered, all_covered, all_true, negation_true, true_negation, negation_covered}
-use Rattle.proof_steps.specs.declared.refutation.Refutation.{Refutation}
-use Rattle.proof_steps.specs.declared.refutation.Refutation.TheVariants.{Split, Leaf}
 use Rattle.proof_steps.specs.declared.refutation.Step.{Step}
+use Rattle.proof_steps.specs.Refutation.{Refutation, split, leaf}
 use Rattle.proof_steps.specs.Steps.{is_shallow, step_holds}
 use Rattle.proof_steps.specs.Refutes.{denied, given_first, given_at, is_absurd, denies, closes, leaf_closes, refutes_under, refutes}
 use Rattle.proof_steps.proofs.Citing.{StepIsTrue}
 use Rattle.proof_steps.proofs.Summing.{absurd_fails}
 use Rattle.proof_steps.proofs.Standing.{Standing, grown, assumed, step_on}
-use Rattle.proof_steps.proofs.Refuting.{refutes_split, refutes_leaf, induction}
 
 module _ (i : Instance) (T : List Entry) (l r : Store) where
   -- a step that is denied by an earlier one, or absurd, is not true
@@ -57,10 +55,9 @@ module _ (A : Type 0) (i : Instance) (l r : Store) (ob : Obligation) (fits : fit
   abbrev Shows : Refutation → Type 0
   Shows proof = (on_way : List Signed) → refutes_under ob proof on_way ≡ true → (T : List Entry) → Standing A i l r ob T (given_at ob on_way) [] → A
 
-  split_shows : (x : Literal) (a b : Refutation) → Shows a → Shows b → Shows (Split x a b)
+  split_shows : (x : Literal) (a b : Refutation) → Shows a → Shows b → Shows (split x a b)
   split_shows x a b first second on_way e T here =
-      let layer = ap (λ f. f on_way) (sym (refutes_split ob x a b)) ∙ e in
-      let p = and_parts (is_shallow x) _ layer in
+      let p = and_parts (is_shallow x) _ e in
       let q = and_parts (refutes_under ob a (signed_of x ∷ on_way)) _ p.1 in
       extend_literals A i l r (x ∷ []) T here.faithful (λ U f g c.
       let stands : Standing A i l r ob U (given_at ob on_way) [] = grown A i l r ob T U (given_at ob on_way) [] here f g in
@@ -69,11 +66,9 @@ module _ (A : Type 0) (i : Instance) (l r : Store) (ob : Obligation) (fits : fit
       (λ h. first (signed_of x ∷ on_way) q.0 U (assumed A i l r ob U (given_at ob on_way) [] (signed_of x) stands covers h))
       (λ h. second (negated (signed_of x) ∷ on_way) q.1 U (assumed A i l r ob U (given_at ob on_way) [] (negated (signed_of x)) stands (negation_covered i U l r (signed_of x) covers) (negation_true i U l r (signed_of x) h))))
 
-  leaf_case : (steps : List Step) → Shows (Leaf steps)
-  leaf_case steps on_way e T here = leaf_shows (given_at ob on_way) steps [] (ap (λ f. f on_way) (sym (refutes_leaf ob steps)) ∙ e) T here
-
   shows : (proof : Refutation) → Shows proof
-  shows proof = induction Shows split_shows leaf_case proof
+  shows (split x a b) = split_shows x a b (shows a) (shows b)
+  shows (leaf steps) = λ on_way e T here. leaf_shows (given_at ob on_way) steps [] e T here
 
 pub refuted_holds : (ob : Obligation) (proof : Refutation) → refutes ob proof ≡ true → ObligationHolds ob
 unfolding refutes

@@ -1,9 +1,11 @@
 pub mod Cited
 pub mod Leaves
+pub mod Refutation
+pub mod RefutationCode
 pub mod RefuteLaws
 pub mod Refutes
 pub mod Replaced
 pub mod Rows
 pub mod Steps
 pub mod Sums
-pub mod Turns
+pub mod Ways

@@ -8,9 +8,8 @@ use Rattle.rule_terms.specs.declared.obligation.Atom.TheVariants.{AtMost}
 use Rattle.rule_terms.specs.declared.obligation.Literal.{Literal}
 use Rattle.rule_terms.specs.declared.obligation.Obligation.{Obligation}
 use Rattle.law_clauses.specs.Signed.{Signed, plus, signed_of, all_signed, negated, signed_same}
-use Rattle.proof_steps.specs.declared.refutation.Refutation.{Refutation, fold-Refutation}
-use Rattle.proof_steps.specs.declared.refutation.Refutation.TheOpen.{Refutation-F}
 use Rattle.proof_steps.specs.declared.refutation.Step.{Step}
+use Rattle.proof_steps.specs.Refutation.{Refutation, split, leaf}
 use Rattle.proof_steps.specs.Steps.{is_shallow, step_holds}
 
 abbrev pub denied : Option Literal → List Signed
@@ -44,12 +43,9 @@ leaf_closes ob given earlier (s ∷ []) = step_holds ob given earlier s && close
 leaf_closes ob given earlier (s ∷ t ∷ more) = step_holds ob given earlier s && leaf_closes ob given (earlier ++ s ∷ []) (t ∷ more)
 
 -- under literals that are assumed on the way
-abbrev pub refutes_layer : Obligation → Refutation-F (List Signed → Bool) → List Signed → Bool
-refutes_layer ob (Refutation-F.Split x a b) assumed = is_shallow x && (a (signed_of x ∷ assumed) && b (negated (signed_of x) ∷ assumed))
-refutes_layer ob (Refutation-F.Leaf steps) assumed = leaf_closes ob (given_at ob assumed) [] steps
-
 abbrev pub refutes_under : Obligation → Refutation → List Signed → Bool
-refutes_under ob = fold-Refutation (List Signed → Bool) (refutes_layer ob)
+refutes_under ob (split x a b) assumed = is_shallow x && (refutes_under ob a (signed_of x ∷ assumed) && refutes_under ob b (negated (signed_of x) ∷ assumed))
+refutes_under ob (leaf steps) assumed = leaf_closes ob (given_at ob assumed) [] steps
 
 unfoldable pub refutes : Obligation → Refutation → Bool
 refutes ob proof = refutes_under ob proof []

@@ -4,7 +4,7 @@
 ghost use Rattle.std.specs.Prelude.{◌≡◌, []};
 ghost use Rattle.proof_steps.specs.Refutes.{given_at, leaf_closes};
 ghost use Rattle.proof_steps.specs.Leaves.{steps_hold, last_closes};
-ghost use Rattle.proof_steps.specs.Turns.{assumed_list};
+ghost use Rattle.proof_steps.specs.Ways.{assumed_list};
 
 use crate::assumed::Assumed;
 use crate::closing::closes;

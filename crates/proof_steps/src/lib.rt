@@ -7,6 +7,7 @@ mod assumed;
 mod cited_lists;
 mod cites;
 mod closing;
+mod copy;
 mod equalities;
 mod given;
 pub mod laws;
@@ -18,5 +19,6 @@ mod steps;
 mod sums;
 mod walk;
 
-pub use refutation::{By, Refutation, Step, SumRow};
-pub use walk::refutes;
+pub use copy::{copy_parts, copy_rows, copy_steps};
+pub use refutation::{By, Part, Refutation, Step, SumRow};
+pub use walk::{refutes, refutes_under};

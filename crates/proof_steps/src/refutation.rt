@@ -1,14 +1,31 @@
 //! Refutations: proofs that an obligation holds, from its negated goal to a contradiction.
-//! What makes one of them right is said in `specs/Refutes.antt`.
+//! A contract sees the tree of `specs/Refutation.antt`; it is kept as the list of its parts in the order of the text, so that
+//! reading, copying and dropping are loops. What makes one of them right is said in `specs/Refutes.antt`.
 
+ghost use Rattle.std.specs.Prelude.{◌≡◌, IfOk};
+ghost use Rattle.proof_steps.specs.Refutation.{leaf, parts, distances};
+
+use crate::copy::copy_parts;
 use rule_terms::{Literal, ValueTerm};
-use sqlite_items::{Boxed, Items};
+use sqlite_items::Items;
+use std::alloc::Global;
+use std::marker::Model;
+use toy_imp::NoMemory;
 
 /// A proof by cases, down to leaves that are contradictions.
 #[derive(Drop)]
-pub enum Refutation {
+pub struct Refutation {
+    /// Each split in front of its two branches.
+    all: Items<Part>,
+    /// How far in front of each part the split stands whose branch begins there; 0 at the first.
+    back: Items<usize>,
+}
+
+/// A part of a refutation.
+#[derive(Drop)]
+pub enum Part {
     /// The literal is assumed in the first branch, its negation in the second.
-    Split(Literal, Boxed<Refutation>, Boxed<Refutation>),
+    Split(Literal),
     /// Steps that end in a contradiction. They are numbered from 0 and cite earlier ones alone.
     Leaf(Items<Step>),
 }
@@ -59,4 +76,57 @@ pub enum SumRow {
     Off(ValueTerm),
     /// The same with the sides exchanged.
     OffBack(ValueTerm),
+}
+
+impl Model for Refutation {
+    ghost use Rattle.std.specs.Prelude.{List};
+    ghost use Rattle.std.specs.Coded.{code_by, coded_list};
+    ghost use Rattle.proof_steps.specs.declared.refutation.Part.{Part};
+    ghost use Rattle.proof_steps.specs.contracts.refutation.Part.{the_row};
+    ghost use Rattle.proof_steps.specs.Refutation.{Refutation, parts, tree_of, IsKept};
+    ghost use Rattle.proof_steps.specs.RefutationCode.{tree_of_parts};
+
+    ghost Value = { Refutation };
+
+    ghost coded = { code_by (List Part) (coded_list the_row.coded) parts tree_of tree_of_parts };
+
+    ghost view = { λ r. tree_of r.all };
+
+    ghost invariant = { λ r. IsKept r.all r.back };
+}
+
+impl Refutation {
+    /// The refutation of these steps alone.
+    pub fn leaf(alloc: Global, steps: Items<Step>) -> Result<Refutation, NoMemory>
+        ensures { IfOk result (λ r. r ≡ leaf steps) }
+    {
+        let mut all = Items::new(alloc);
+        all.push(Part::Leaf(steps))?;
+        let mut back = Items::new(alloc);
+        back.push(0)?;
+        Ok(Refutation { all, back })
+    }
+
+    /// An equal refutation. It takes a stack that does not grow with it.
+    pub fn copy(&self, alloc: Global) -> Result<Refutation, NoMemory>
+        ensures { IfOk result (λ r. r ≡ self.now) }
+    {
+        let all = copy_parts(alloc, self.all.as_slice())?;
+        let back = Items::from_slice(alloc, self.back.as_slice())?;
+        Ok(Refutation { all, back })
+    }
+
+    /// Its parts, in the order of the text.
+    pub fn parts(&self) -> &[Part]
+        ensures { result.now ≡ parts self.now }
+    {
+        self.all.as_slice()
+    }
+
+    // How far in front of each part the split stands whose branch begins there.
+    pub fn distances(&self) -> &[usize]
+        ensures { result.now ≡ distances 0 self.now }
+    {
+        self.back.as_slice()
+    }
 }

@@ -7,7 +7,7 @@ ghost use Rattle.rule_terms.specs.Term.{value_depth};
 ghost use Rattle.law_clauses.specs.Signed.{signed_of};
 ghost use Rattle.proof_steps.specs.Steps.{is_given, follows, row_is_shallow, reason_is_shallow, step_holds};
 ghost use Rattle.proof_steps.specs.Refutes.{given_at};
-ghost use Rattle.proof_steps.specs.Turns.{assumed_list};
+ghost use Rattle.proof_steps.specs.Ways.{assumed_list};
 
 use crate::arguments::{is_alike, is_carried};
 use crate::assumed::{Assumed, is_assumed};

@@ -2,7 +2,7 @@
 use Rattle.std.proofs.Common.{◌≡◌, [], take, drop}
 use Rattle.proof_steps.specs.Refutes.{given_at}
 use Rattle.proof_steps.specs.Leaves.{steps_hold}
-use Rattle.proof_steps.specs.Turns.{assumed_list}
+use Rattle.proof_steps.specs.Ways.{assumed_list}
 use Rattle.proof_steps.proofs.leaf.steps_hold.Given as goal
 
 abbrev pub invariant-loop-i : goal.invariant-loop-i
