@@ -3,9 +3,9 @@
 //! Prints how often the answer is yes.
 
 use anyhow::{Context, Result, bail};
-use proof_steps::{By, Refutation, Step, refutes};
+use proof_steps::{By, Part, Refutation, Step, refutes};
 use rule_terms::{Atom, Conjunct, Literal, Obligation, StoreTerm};
-use sqlite_items::{Boxed, Items};
+use sqlite_items::Items;
 use std::alloc::Global;
 
 /// Does it, and prints the number.
@@ -114,32 +114,46 @@ fn known(alloc: Global) -> Step {
     }
 }
 
-/// A leaf of so many steps, at least two.
-fn leaf(alloc: Global, n: u32) -> Result<Refutation> {
+/// So many steps of a leaf, at least two.
+fn steps(alloc: Global, n: u32) -> Result<Items<Step>> {
     let mut steps = Items::new(alloc);
     for k in 0..n.saturating_sub(1) {
         steps.push(step(alloc, k))?;
     }
     steps.push(known(alloc))?;
-    Ok(Refutation::Leaf(steps))
+    Ok(steps)
 }
 
-fn split(alloc: Global, deep: Refutation, flat: Refutation, first: bool) -> Result<Refutation> {
-    let deep = Boxed::new(alloc, deep)?;
-    let flat = Boxed::new(alloc, flat)?;
-    if first {
-        Ok(Refutation::Split(exchanged(), deep, flat))
-    } else {
-        Ok(Refutation::Split(exchanged(), flat, deep))
+fn leaf(alloc: Global, n: u32) -> Result<Refutation> {
+    let steps = steps(alloc, n)?;
+    Ok(Refutation::leaf(alloc, steps)?)
+}
+
+fn short_leaf(alloc: Global) -> Result<Part> {
+    Ok(Part::Leaf(steps(alloc, 2)?))
+}
+
+/// The parts of so many splits, one in another: the deep branch first or second.
+fn parts(alloc: Global, n: u32, first: bool) -> Result<Items<Part>> {
+    let mut parts = Items::new(alloc);
+    for _ in 0..n {
+        parts.push(Part::Split(exchanged()))?;
+        if !first {
+            parts.push(short_leaf(alloc)?)?;
+        }
     }
+    parts.push(short_leaf(alloc)?)?;
+    if first {
+        for _ in 0..n {
+            parts.push(short_leaf(alloc)?)?;
+        }
+    }
+    Ok(parts)
 }
 
 /// So many splits, one in another.
 fn nested(alloc: Global, n: u32, first: bool) -> Result<Refutation> {
-    let mut deep = leaf(alloc, 2)?;
-    for _ in 0..n {
-        let flat = leaf(alloc, 2)?;
-        deep = split(alloc, deep, flat, first)?;
-    }
-    Ok(deep)
+    let parts = parts(alloc, n, first)?;
+    let read = Refutation::of_parts(alloc, parts)?;
+    read.context("one refutation")
 }

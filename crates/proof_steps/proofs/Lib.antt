@@ -1,9 +1,11 @@
 pub mod Arguing
 pub mod Citing
 pub mod Examples
+pub mod HeldGoals
 pub mod Leafing
 pub mod LeftOut
 pub mod Lists
+pub mod Placing
 pub mod Refuting
 pub mod Replacing
 pub mod Soundness
@@ -14,3 +16,4 @@ pub mod Stepping
 pub mod Summed
 pub mod Summing
 pub mod Walking
+pub mod Weakening

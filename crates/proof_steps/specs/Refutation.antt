@@ -1,6 +1,6 @@
 -- Refutations as trees, and their parts in the order of the text: a split's literal, its first branch, its second one.
 -- What makes one of them right is said in `Refutes`.
-use Rattle.std.specs.Prelude.{◌≡◌, ℕ, suc, List, [], ◌∷◌, ◌++◌, length}
+use Rattle.std.specs.Prelude.{◌≡◌, ℕ, suc, List, [], ◌∷◌, ◌++◌, length, Option, Some, None}
 use Rattle.rule_terms.specs.declared.obligation.Literal.{Literal}
 use Rattle.proof_steps.specs.declared.refutation.Step.{Step}
 use Rattle.proof_steps.specs.declared.refutation.Part.{Part}
@@ -42,3 +42,8 @@ tree_of ps = first_of (trees ps)
 pub record IsKept (ps : List Part) (back : List ℕ) : Type 0 where
   pub are_parts : ps ≡ parts (tree_of ps)
   pub are_distances : back ≡ distances 0 (tree_of ps)
+
+-- what is read of parts: the refutation that has them, and none only where no refutation has them
+abbrev pub IsRead : List Part → Option Refutation → Type 0
+IsRead ps None = (r : Refutation) → parts r ≡ ps → ⊥
+IsRead ps (Some r) = parts r ≡ ps

@@ -13,6 +13,7 @@ mod given;
 pub mod laws;
 mod laws_cited;
 mod leaf;
+mod placed;
 mod refutation;
 mod replaced;
 mod steps;

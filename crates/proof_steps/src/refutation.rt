@@ -3,9 +3,10 @@
 //! reading, copying and dropping are loops. What makes one of them right is said in `specs/Refutes.antt`.
 
 ghost use Rattle.std.specs.Prelude.{◌≡◌, IfOk};
-ghost use Rattle.proof_steps.specs.Refutation.{leaf, parts, distances};
+ghost use Rattle.proof_steps.specs.Refutation.{leaf, parts, distances, IsRead};
 
 use crate::copy::copy_parts;
+use crate::placed::distances_of;
 use rule_terms::{Literal, ValueTerm};
 use sqlite_items::Items;
 use std::alloc::Global;
@@ -105,6 +106,17 @@ impl Refutation {
         let mut back = Items::new(alloc);
         back.push(0)?;
         Ok(Refutation { all, back })
+    }
+
+    /// The refutation that has these parts, in the order of the text; none where no refutation has them.
+    #[tactic(auto, using(crate::proofs::Placing::are_kept, crate::proofs::Placing::no_parts))]
+    pub fn of_parts(alloc: Global, all: Items<Part>) -> Result<Option<Refutation>, NoMemory>
+        ensures { IfOk result (λ o. IsRead all o) }
+    {
+        match distances_of(alloc, all.as_slice())? {
+            Some(back) => Ok(Some(Refutation { all, back })),
+            None => Ok(None),
+        }
     }
 
     /// An equal refutation. It takes a stack that does not grow with it.

@@ -33,7 +33,7 @@ fn leaf(alloc: Global, known: u32) -> Result<Refutation, NoMemory> {
     let mut steps = Items::new(alloc);
     steps.push(denied())?;
     steps.push(known_step(alloc, known))?;
-    Ok(Refutation::Leaf(steps))
+    Refutation::leaf(alloc, steps)
 }
 
 fn is_right(alloc: Global, ob: &Obligation, known: u32) -> Option<bool> {

@@ -1,4 +1,4 @@
-use Rattle.std.proofs.Common.{◌≡◌, ◌<◌, ◌&&◌, ◌+◌, length, drop, sym, ◌∙◌, arith}
+use Rattle.std.proofs.Common.{◌<◌, ◌&&◌, ◌+◌, length, drop, sym, ◌∙◌, arith}
 use Rattle.proof_steps.specs.Refutation.{parts}
 use Rattle.proof_steps.specs.Ways.{all_listed, ways, parts_right}
 use Rattle.proof_steps.proofs.Refuting.{walk_step}
