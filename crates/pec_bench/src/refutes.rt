@@ -126,7 +126,7 @@ fn steps(alloc: Global, n: u32) -> Result<Items<Step>> {
 
 fn leaf(alloc: Global, n: u32) -> Result<Refutation> {
     let steps = steps(alloc, n)?;
-    Ok(Refutation::leaf(alloc, steps)?)
+    Refutation::leaf(alloc, steps).ok().context("memory")
 }
 
 fn short_leaf(alloc: Global) -> Result<Part> {
@@ -154,6 +154,6 @@ fn parts(alloc: Global, n: u32, first: bool) -> Result<Items<Part>> {
 /// So many splits, one in another.
 fn nested(alloc: Global, n: u32, first: bool) -> Result<Refutation> {
     let parts = parts(alloc, n, first)?;
-    let read = Refutation::of_parts(alloc, parts)?;
+    let read = Refutation::of_parts(alloc, parts).ok().context("memory")?;
     read.context("one refutation")
 }
