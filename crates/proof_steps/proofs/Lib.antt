@@ -5,6 +5,7 @@ pub mod HeldGoals
 pub mod Leafing
 pub mod LeftOut
 pub mod Lists
+pub mod Moving
 pub mod Placing
 pub mod Refuting
 pub mod Replacing

@@ -1,5 +1,6 @@
 pub mod Cited
 pub mod Leaves
+pub mod Moved
 pub mod Placed
 pub mod Refutation
 pub mod RefutationCode

@@ -1,5 +1,5 @@
 -- The laws of refutations: on the first the checking of certificates stands, and on the others the search for refutations.
-use Rattle.std.specs.Prelude.{◌≡◌, ℕ, Bool, true, List, ◌∷◌}
+use Rattle.std.specs.Prelude.{◌≡◌, ℕ, ◌+◌, Bool, true, List, ◌∷◌, ◌++◌, length}
 use Rattle.std.specs.List.{list_all}
 use Rattle.toy_imp.specs.declared.instance.Instance.{Instance}
 use Rattle.toy_imp.specs.Meets.{MeetsAll}
@@ -11,6 +11,7 @@ use Rattle.term_meaning.specs.Meaning.{literal_truth, conjunct_truth, fits_kinds
 use Rattle.law_clauses.specs.Signed.{Signed, signed_of, negated}
 use Rattle.proof_steps.specs.declared.refutation.Step.{Step}
 use Rattle.proof_steps.specs.Refutation.{Refutation, split}
+use Rattle.proof_steps.specs.Moved.{moved}
 use Rattle.proof_steps.specs.Steps.{is_given, is_shallow, step_holds}
 use Rattle.proof_steps.specs.Refutes.{refutes_under, Refutes}
 
@@ -43,3 +44,9 @@ abbrev pub BranchesRefute : Type 0
 BranchesRefute =
     (ob : Obligation) (x : Literal) (a b : Refutation) (xs : List Signed) → is_shallow x ≡ true
     → refutes_under ob a (signed_of x ∷ xs) ≡ true → refutes_under ob b (negated (signed_of x) ∷ xs) ≡ true → refutes_under ob (split x a b) xs ≡ true
+
+-- a step that holds behind steps holds, its citations moved by a number, where so many steps stand in front of those and others behind
+abbrev pub StepsHoldMoved : Type 0
+StepsHoldMoved =
+    (ob : Obligation) (given : List Signed) (front earlier behind : List Step) (s : Step) → step_holds ob given earlier s ≡ true
+    → step_holds ob given (front ++ (earlier ++ behind)) (moved (λ k. length front + k) s) ≡ true

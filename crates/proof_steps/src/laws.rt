@@ -1,7 +1,7 @@
 //! The laws of refutations, each the contract of a function that does nothing.
 //! The statements are in `specs/RefuteLaws.antt`.
 
-ghost use Rattle.proof_steps.specs.RefuteLaws.{RefutedHolds, HeldGoalIsTrue, StepsHoldUnderMore, RefutesUnderMore, BranchesRefute};
+ghost use Rattle.proof_steps.specs.RefuteLaws.{RefutedHolds, HeldGoalIsTrue, StepsHoldUnderMore, StepsHoldMoved, RefutesUnderMore, BranchesRefute};
 
 /// An obligation that has a refutation holds.
 pub fn refuted_holds()
@@ -16,6 +16,11 @@ pub fn held_goal_is_true()
 /// A step that holds still holds where more is given.
 pub fn steps_hold_under_more()
     ensures { StepsHoldUnderMore }
+{}
+
+/// A step that holds still holds among more steps, its citations moved with those that it cites.
+pub fn steps_hold_moved()
+    ensures { StepsHoldMoved }
 {}
 
 /// A refutation under some assumptions is one under more.
