@@ -1,10 +1,10 @@
 -- A step that holds behind some steps holds, its citations moved, behind any steps among which those that it cites stand.
-use Rattle.std.specs.Prelude.{◌≡◌, ◌+◌, zero, suc, length, ℕ, ℤ, ◌+ℤ◌, pos, Bool, true, false, cond, ◌&&◌, List, [], ◌∷◌, ◌++◌, map, Option, Some, None, slice_get, refl}
+use Rattle.std.specs.Prelude.{◌≡◌, ◌+◌, zero, suc, length, ℕ, ℤ, ◌+ℤ◌, pos, Bool, true, false, cond, List, [], ◌∷◌, ◌++◌, map, Option, Some, None, slice_get, refl}
 use Rattle.std.specs.Option.{option_map}
 use Rattle.std.specs.List.{list_all}
 use Rattle.std.proofs.Common.{sym, ◌∙◌, ap, subst, true≢false, arith}
 use Rattle.std.proofs.lemmas.Bool.{and_parts, and_from}
-use Rattle.rule_terms.specs.Term.{ValueTerm, ValueTerms}
+use Rattle.rule_terms.specs.Term.{ValueTerm}
 use Rattle.rule_terms.specs.declared.obligation.Atom.{Atom}
 use Rattle.rule_terms.specs.declared.obligation.Conjunct.{Conjunct}
 use Rattle.rule_terms.specs.declared.obligation.Atom.TheVariants.{SameStore, SameValue, AtMost, Ends, Holds}
@@ -18,7 +18,7 @@ use Rattle.proof_steps.specs.declared.refutation.Step.{Step}
 use Rattle.proof_steps.specs.declared.refutation.SumRow.{SumRow}
 use Rattle.proof_steps.specs.declared.refutation.SumRow.TheVariants.{Of, Back, Num, Off, OffBack}
 use Rattle.proof_steps.specs.Cited.{fact, is_that, cited}
-use Rattle.proof_steps.specs.Steps.{by_known, given_by, flipped, chained, met, by_law, all_negated, without, has_rows, summed, follows, is_shallow, row_is_shallow, reason_is_shallow, step_holds}
+use Rattle.proof_steps.specs.Steps.{by_known, flipped, chained, met, by_law, all_negated, without, has_rows, summed, follows, is_shallow, row_is_shallow, reason_is_shallow, step_holds}
 use Rattle.proof_steps.specs.Sums.{Bound, bound_of, bound_back, row_bound, goes_on, goes_on_by, adds_up}
 use Rattle.proof_steps.specs.Replaced.{says, left_by_equality, left_by_pair, left_by_pairs, all_used, replaced, alike, carried, carried_atom}
 use Rattle.proof_steps.specs.Moved.{moved_row, moved_reason, moved}

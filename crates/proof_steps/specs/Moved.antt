@@ -1,5 +1,5 @@
 -- Steps whose citations are moved: each cited number is exchanged for another.
-use Rattle.std.specs.Prelude.{ℕ, List, map}
+use Rattle.std.specs.Prelude.{ℕ, map}
 use Rattle.proof_steps.specs.declared.refutation.By.{By}
 use Rattle.proof_steps.specs.declared.refutation.By.TheVariants.{Given, Known, Refl, Flip, Chain, Alike, Carry, Law, Meet, Sum}
 use Rattle.proof_steps.specs.declared.refutation.Step.{Step}
