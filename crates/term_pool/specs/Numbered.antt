@@ -85,6 +85,10 @@ unfoldable pub each_names_earlier : List Term → List Node → Bool
 each_names_earlier ts [] = true
 each_names_earlier ts (n ∷ ns) = names_earlier ts n && each_names_earlier (ts ++ built ts n ∷ []) ns
 
+-- the term that a node has in a pool
+abbrev pub node_term : List Node → Node → Term
+node_term ns n = built (terms_of_nodes ns) n
+
 -- a number that stands for a term, and numbers that stand for values beside one another
 abbrev pub IsNumber : List Node → ℕ → Term → Type 0
 IsNumber ns n t = slice_get (terms_of_nodes ns) n ≡ Some t

@@ -43,6 +43,11 @@ obligation_numbered ns ob = record {
   goal = conjunct_numbered (terms_of_nodes ns) ob.goal;
 }
 
+-- the obligation of the same rule, over these
+abbrev pub of_rule : Obligation → List PooledConjunct → List PooledLiteral → PooledConjunct → PooledObligation
+of_rule ob known path goal = record { params = ob.params; conditions = ob.conditions; known = known; path = path; goal = goal }
+
+-- whether the numbers are of the pool
 unfoldable pub atom_in : List Term → PooledAtom → Bool
 atom_in ts (SameName x y) = true
 atom_in ts (SameStore a b) = has_store ts a && has_store ts b

@@ -1,5 +1,5 @@
 //! Terms put into a pool: nodes that are missing go last, parts before the whole.
-//! `specs/Growth.antt` says in which order; a term that is there takes a look-up for each of its nodes.
+//! `specs/Growth.antt` says in which order; a term that is there takes a look-up for each node.
 
 ghost use Rattle.std.specs.Prelude.{◌≡◌, IfOk, OnOk, OnErr};
 ghost use Rattle.rule_terms.specs.Term.{num};

@@ -1,4 +1,4 @@
-//! The terms of numbers, as trees again. A number of no store stands for `L`, one of no value for 0.
+//! The terms of numbers, as trees again. A number of no store stands for `L`, of no value for 0.
 //! `specs/Numbered.antt` says what a number stands for.
 
 ghost use Rattle.std.specs.Prelude.{◌≡◌, IfOk};
@@ -85,7 +85,7 @@ impl Pool {
     #[cycle(build)]
     #[tactic(auto, using(crate::proofs::Rebuilt::number_item, crate::proofs::Rebuilt::next_index, crate::proofs::Rebuilt::no_index))]
     pub fn values(&self, alloc: Global, numbers: &[u32]) -> Result<Items<ValueTerm>, NoMemory>
-        ensures { IfOk result (λ vs. terms_of vs ≡ values_numbered (terms_of_nodes self.now) numbers.now) }
+        ensures { IfOk result (λ v. terms_of v ≡ values_numbered (terms_of_nodes self.now) numbers.now) }
     {
         let mut all = Items::new(alloc);
         for n in numbers {

@@ -1,4 +1,5 @@
-//! Terms by numbers: each different term once, parts before the whole, equality of terms in constant time.
+//! Terms by numbers: each different term once, parts before the whole.
+//! Terms of one pool are equal exactly where their numbers are.
 #![tactic(auto)]
 
 mod adding;

@@ -11,7 +11,7 @@ ghost use Rattle.std.specs.Ordering.{on, eq_of_both};
 use sqlite_items::Items;
 use std::hash::{Hash, Hasher};
 
-/// The top of a term. A number of the pool is a term; the first number of `Run` and `Ev` is a parameter.
+/// The top of a term. Its numbers are of the pool; the first of `Run` and `Ev` is a parameter.
 #[derive(PartialEq, Eq, Hash, Drop)]
 pub enum Node {
     /// The store of the left side.

@@ -1,10 +1,11 @@
 //! Obligations put into a pool, each different term once.
-//! `specs/Pooled.antt` says what the numbers stand for, `specs/ObligationTerms.antt` in which order terms are met.
+//! `specs/Pooled.antt` says what the numbers stand for, and `specs/ObligationTerms.antt` in which
+//! order terms are met.
 
 ghost use Rattle.std.specs.Prelude.{◌≡◌, true, IfOk, OnOk, OnErr};
 ghost use Rattle.term_pool.specs.Growth.{Adds, Extends};
 ghost use Rattle.term_pool.specs.ObligationTerms.{atom_terms, literal_terms, literals_terms, gives_terms, conjunct_terms, conjuncts_terms, obligation_terms};
-ghost use Rattle.term_pool.specs.Pooled.{obligation_in, obligation_numbered, AtomOf, LiteralOf, LiteralsOf, GivesOf, ConjunctOf, ConjunctsOf};
+ghost use Rattle.term_pool.specs.Pooled.{of_rule, obligation_in, obligation_numbered, AtomOf, LiteralOf, LiteralsOf, GivesOf, ConjunctOf, ConjunctsOf};
 
 use crate::pool::Pool;
 use crate::pooled::{PooledAtom, PooledConjunct, PooledLiteral, PooledObligation};
@@ -13,7 +14,8 @@ use sqlite_items::Items;
 use std::alloc::Global;
 use toy_imp::{Condition, NoMemory};
 
-/// The obligation by numbers, with its terms put into the pool. After want of memory the pool is as it was.
+/// The obligation by numbers, with its terms put into the pool. After want of memory the pool is as
+/// it was.
 pub fn pool_obligation(
     alloc: Global,
     pool: &mut Pool,
@@ -159,7 +161,7 @@ fn with_rule(
     path: Items<PooledLiteral>,
     goal: PooledConjunct,
 ) -> Result<PooledObligation, NoMemory>
-    ensures { IfOk result (λ p. p ≡ record { params = ob.now.params; conditions = ob.now.conditions; known = known; path = path; goal = goal }) }
+    ensures { IfOk result (λ p. p ≡ of_rule ob.now known path goal) }
 {
     let params = Items::from_slice(alloc, ob.params.as_slice())?;
     let conditions = copy_conditions(alloc, ob.conditions.as_slice())?;

@@ -3,7 +3,7 @@
 
 ghost use Rattle.std.specs.Prelude.{◌≡◌, [], ◌∷◌, ◌++◌, length, take, slice_get, true, Some, IfOk, OnOk, OnErr, IfSome, IfNone};
 ghost use Rattle.std.specs.Option.{option_copied};
-ghost use Rattle.term_pool.specs.Numbered.{built, terms_of_nodes, names_earlier, IsPool, Stands};
+ghost use Rattle.term_pool.specs.Numbered.{node_term, terms_of_nodes, names_earlier, IsNumber, IsPool, Stands};
 ghost use Rattle.term_pool.specs.Growth.{Adds};
 ghost use Rattle.term_pool.specs.Kept.{IsMissing};
 
@@ -13,7 +13,7 @@ use std::alloc::Global;
 use std::marker::Model;
 use toy_imp::NoMemory;
 
-/// Terms by numbers. A contract sees the list of nodes, which a function with the clause `pool` says is a pool.
+/// Terms by numbers. A contract sees the list of nodes, which is a pool by the clause `pool` of `len`.
 #[derive(Drop)]
 pub struct Pool {
     /// Each node with the nodes of its term, in the order of numbers.
@@ -91,12 +91,13 @@ impl Pool {
         }
     }
 
-    /// The number of a node, whose parts have numbers: its own where it is there, else the next, at which it is put.
+    /// The number of a node, whose parts have numbers: its own where it is there, else the next,
+    /// at which it is put. After want of memory the pool is as it was.
     #[tactic(auto, using(crate::proofs::Growing::number_known, crate::proofs::Growing::known_node, crate::proofs::Growing::number_new, crate::proofs::Growing::new_node))]
     pub fn add(&mut self, node: Node) -> Result<u32, NoMemory>
         requires { names_earlier (terms_of_nodes self.old) node ≡ true }
-        ensures number { IfOk result (λ n. slice_get (terms_of_nodes self.new) n ≡ Some (built (terms_of_nodes self.old) node)) }
-        ensures added { OnOk result (Adds self.old self.new (built (terms_of_nodes self.old) node ∷ [])) }
+        ensures number { IfOk result (λ n. IsNumber self.new n (node_term self.old node)) }
+        ensures added { OnOk result (Adds self.old self.new (node_term self.old node ∷ [])) }
         ensures same { OnErr result (self.new ≡ self.old) }
     {
         match self.find(&node) {

@@ -4,7 +4,8 @@
 use sqlite_items::Items;
 use toy_imp::{Condition, Kind};
 
-/// A statement about terms. The first number of `Holds` is a test parameter, those of `SameName` are names.
+/// A statement about terms. The first number of `Holds` is a test parameter; those of `SameName` are
+/// names.
 #[derive(Drop)]
 pub enum PooledAtom {
     /// Two name parameters stand for the same name.
