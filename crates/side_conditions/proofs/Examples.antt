@@ -1,6 +1,6 @@
 -- Worked rows: what texts read and write, and the reads and writes of a run.
 -- The block `a[i] := x + 1; for k = 0 to n { let y = k { assert y < z; } }`, in which each kind of place stands.
-use Rattle.std.specs.Prelude.{◌≡◌, ℕ, pos, Bool, true, false, List, [], ◌∷◌, refl}
+use Rattle.std.specs.Prelude.{◌≡◌, ℕ, pos, true, false, [], ◌∷◌, refl}
 use Rattle.toy_imp.specs.declared.name.Name.{Name}
 use Rattle.toy_imp.specs.declared.name.Name.TheVariants.{Own}
 use Rattle.toy_imp.specs.Expr.{num, at, add, no_exprs, expr}

@@ -1,5 +1,5 @@
 -- Whether a place has indices, by the length of their list.
-use Rattle.std.specs.Prelude.{◌≡◌, ℕ, List, [], ◌∷◌, length, not, refl}
+use Rattle.std.specs.Prelude.{◌≡◌, List, [], ◌∷◌, length, not, refl}
 use Rattle.std.specs.Bool.{◌==◌}
 use Rattle.std.proofs.Common.{ap}
 use Rattle.std.proofs.Math.Dec.{eqb-suc-zero}

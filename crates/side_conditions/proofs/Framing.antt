@@ -1,6 +1,6 @@
 -- The frame law, by recursion on the steps: two stores that agree on what the first step reads leave the same work, the same writes
 -- are done to both, and what agreed before still agrees.
-use Rattle.std.specs.Prelude.{◌≡◌, ◌≢◌, ℕ, zero, suc, ℤ, Bool, true, false, cond, not, ◌&&◌, ◌||◌, ◌+ℤ◌, ◌-ℤ◌, ◌*ℤ◌, List, [], ◌∷◌, ◌++◌, int_lt, int_le, refl}
+use Rattle.std.specs.Prelude.{◌≡◌, zero, suc, ℤ, Bool, true, false, cond, not, ◌&&◌, ◌||◌, ◌+ℤ◌, ◌-ℤ◌, ◌*ℤ◌, List, [], ◌∷◌, ◌++◌, int_lt, int_le, refl}
 use Rattle.std.specs.Ordering.{int_eq}
 use Rattle.std.proofs.Common.{sym, ◌∙◌, ap, ap₂, subst, inl, inr}
 use Rattle.toy_imp.specs.Cell.{Cell, spelled, variable}
@@ -13,7 +13,7 @@ use Rattle.toy_imp.specs.Block.{skip, put, assert_that, if_then, while_do, for_t
 use Rattle.toy_imp.specs.Run.{Item, act, turns, restore, halt, before, step, run}
 use Rattle.toy_imp.proofs.Stores.{write_is_read, write_keeps_others, cells_decided}
 use Rattle.side_conditions.specs.Each.{Each}
-use Rattle.side_conditions.specs.Frame.{Write, expr_cells, exprs_cells, test_cells, step_reads, step_writes, after, reads, writes, written, outcome}
+use Rattle.side_conditions.specs.Frame.{Write, expr_cells, exprs_cells, test_cells, step_reads, step_writes, after, reads, writes, written}
 use Rattle.side_conditions.specs.FrameLaws.{Agree, SameSteps, FrameLaw, WorkTellsOutcome, WritesTellStore, IsApart, OthersKept}
 
 -- ---- facts of lists in two parts

@@ -1,4 +1,5 @@
 mod Examples
+pub mod Apart
 pub mod Forms
 pub mod Framing
 pub mod Within

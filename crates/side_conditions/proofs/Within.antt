@@ -1,26 +1,26 @@
 -- What a run reads and writes is within the names of its text: every item of the work that a run comes to is made of the text's parts.
-use Rattle.std.specs.Prelude.{◌≡◌, ◌≢◌, ◌⊎◌, ℕ, zero, suc, ℤ, pos, Bool, true, false, cond, ◌||◌, ◌+ℤ◌, List, [], ◌∷◌, ◌++◌, int_lt, bytes_eq, refl}
-use Rattle.std.proofs.Common.{sym, ◌∙◌, ap, subst, inl, inr, true≢false}
+use Rattle.std.specs.Prelude.{◌≡◌, ◌≢◌, ◌⊎◌, ℕ, zero, suc, pos, Bool, true, false, cond, ◌||◌, ◌+ℤ◌, List, [], ◌∷◌, int_lt, bytes_eq, refl}
+use Rattle.std.proofs.Common.{sym, ◌∙◌, subst, inl, inr, true≢false}
 use Rattle.std.proofs.lemmas.Slice.Eq.{bytes_eq-Decides}
 use Rattle.toy_imp.specs.Cell.{Cell, spelled, variable}
 use Rattle.toy_imp.specs.Store.{Store}
 use Rattle.toy_imp.specs.Truth.{truth}
 use Rattle.toy_imp.specs.Expr.{Expr, num, at, add, sub, mul, par_expr, Exprs, no_exprs, expr}
 use Rattle.toy_imp.specs.Test.{Test, less, less_eq, equal, not_of, and_of, or_of, par_test}
-use Rattle.toy_imp.specs.Block.{Stmt, skip, put, assert_that, if_then, while_do, for_to, let_in, par_stmt, Block, empty, stmt}
+use Rattle.toy_imp.specs.Block.{skip, put, assert_that, if_then, while_do, for_to, let_in, par_stmt, Block, empty, stmt}
 use Rattle.toy_imp.specs.Run.{Item, act, turns, restore, halt, before, step}
 use Rattle.side_conditions.specs.Each.{Each}
 use Rattle.side_conditions.specs.Places.{expr_has, exprs_have, test_has, stmt_reads, block_reads, stmt_writes, block_writes}
 use Rattle.side_conditions.specs.Seeking.{named, reads_name, writes_name}
 use Rattle.side_conditions.specs.Frame.{Write, expr_cells, exprs_cells, test_cells, step_reads, step_writes, reads, writes}
-use Rattle.side_conditions.specs.FrameLaws.{IsWithinText, WithinText}
+use Rattle.side_conditions.specs.FrameLaws.{WithinText}
 use Rattle.side_conditions.proofs.Framing.{each_both}
 
-first_no : (a b : Bool) → (a || b) ≡ false → a ≡ false
+pub first_no : (a b : Bool) → (a || b) ≡ false → a ≡ false
 first_no true b e = cc
 first_no false b e = refl
 
-second_no : (a b : Bool) → (a || b) ≡ false → b ≡ false
+pub second_no : (a b : Bool) → (a || b) ≡ false → b ≡ false
 second_no true b e = cc
 second_no false b e = e
 

@@ -1,6 +1,6 @@
 -- The frame law, after Hoare: what a run does depends on the cells that it reads alone, and it changes those alone that it writes.
 -- The laws speak of any list of work, so of a block too, whose work is `before b []`.
-use Rattle.std.specs.Prelude.{◌≡◌, ◌≢◌, ℕ, true, ◌||◌, List, [], ◌∷◌}
+use Rattle.std.specs.Prelude.{◌≡◌, ◌≢◌, ℕ, true, ◌||◌, List, []}
 use Rattle.toy_imp.specs.Cell.{Cell}
 use Rattle.toy_imp.specs.Store.{Store, read}
 use Rattle.toy_imp.specs.Block.{Block}

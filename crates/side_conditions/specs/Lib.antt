@@ -1,3 +1,4 @@
+pub mod ApartLaws
 pub mod Each
 pub mod Frame
 pub mod FrameLaws

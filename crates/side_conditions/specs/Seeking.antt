@@ -1,6 +1,6 @@
 -- The kinds of places that are sought in a text: those of a name, with any indices, without indices, or with some.
 -- A text reads, or writes, a name where it does so at some place of that name.
-use Rattle.std.specs.Prelude.{ℕ, Bool, true, false, ◌&&◌, ◌||◌, List, bytes_eq}
+use Rattle.std.specs.Prelude.{ℕ, Bool, true, false, ◌&&◌, List, bytes_eq}
 use Rattle.toy_imp.specs.declared.name.Name.{Name}
 use Rattle.toy_imp.specs.Cell.{spelled}
 use Rattle.toy_imp.specs.Expr.{Exprs, no_exprs, expr}

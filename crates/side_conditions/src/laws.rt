@@ -1,6 +1,7 @@
 //! The frame law and its parts, each the contract of a function that does nothing.
-//! The statements are in `specs/FrameLaws.antt`.
+//! The statements are in `specs/FrameLaws.antt` and `specs/ApartLaws.antt`.
 
+ghost use Rattle.side_conditions.specs.ApartLaws.{ApartCommute, AssertlessIsQuiet};
 ghost use Rattle.side_conditions.specs.FrameLaws.{FrameLaw, WorkTellsOutcome, WritesTellStore, OthersKept, WithinText};
 
 /// Steps from stores that agree on the cells that those from the first read: the same reads, the same
@@ -27,4 +28,14 @@ pub fn others_kept()
 /// What a run of a block reads and writes is within the names of its text.
 pub fn within_text()
     ensures { WithinText }
+{}
+
+/// Two blocks, of which neither writes a name that the other reads or writes, end alike in both orders.
+pub fn apart_commute()
+    ensures { ApartCommute }
+{}
+
+/// A block in which no `assert` stands halts from no store.
+pub fn assertless_is_quiet()
+    ensures { AssertlessIsQuiet }
 {}
