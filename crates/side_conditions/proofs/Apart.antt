@@ -21,10 +21,10 @@ use Rattle.side_conditions.proofs.Framing.{frame, work_tells_outcome, writes_tel
 use Rattle.side_conditions.proofs.Within.{first_no, second_no, within_text}
 
 -- ---- runs that end, by their steps
-record EndsBy (b : Block) (s t : Store) : Type 0 where
-  steps : ℕ
-  nothing_left : (after steps (before b []) s).work ≡ []
-  store_is : written s (writes steps (before b []) s) ≡ t
+pub record EndsBy (b : Block) (s t : Store) : Type 0 where
+  pub steps : ℕ
+  pub nothing_left : (after steps (before b []) s).work ≡ []
+  pub store_is : written s (writes steps (before b []) s) ≡ t
 
 store_or : Store → Outcome → Store
 store_or d (ended s) = s
@@ -42,7 +42,7 @@ none_left (act a ∷ work) s t e = cc
 none_left (turns x k hi b ∷ work) s t e = cc
 none_left (restore x v ∷ work) s t e = cc
 
-ends_by : (b : Block) (s t : Store) → Ends b s t → EndsBy b s t
+pub ends_by : (b : Block) (s t : Store) → Ends b s t → EndsBy b s t
 ends_by b s t r =
     let n : ℕ = r.steps in
     let told = none_left ((after n (before b []) s).work) ((after n (before b []) s).store) t (sym (work_tells_outcome n (before b []) s) ∙ r.reached) in

@@ -2,4 +2,5 @@ mod Examples
 pub mod Apart
 pub mod Forms
 pub mod Framing
+pub mod Keeping
 pub mod Within

@@ -60,6 +60,14 @@ module _ (z : List ℕ) where
   test_other (or_of t u) s h = each_both Other (test_cells t s) (test_cells u s) (test_other t s (first_no _ _ h)) (test_other u s (second_no _ _ h))
   test_other (par_test k) s h = tt
 
+  pub expr_apart : (e : Expr) (s : Store) → expr_has (named z) e ≡ false → Each (λ (c : Cell). c.0 ≢ z) (expr_cells e s)
+  unfolding Other
+  expr_apart e s h = expr_other e s h
+
+  pub test_apart : (t : Test) (s : Store) → test_has (named z) t ≡ false → Each (λ (c : Cell). c.0 ≢ z) (test_cells t s)
+  unfolding Other
+  test_apart t s h = test_other t s h
+
   -- ---- the writes: no item of the work writes the name
   NotWrittenBy : Item → Type 0
   NotWrittenBy (act a) = stmt_writes (named z) a ≡ false

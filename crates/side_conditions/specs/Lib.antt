@@ -2,5 +2,6 @@ pub mod ApartLaws
 pub mod Each
 pub mod Frame
 pub mod FrameLaws
+pub mod KeepLaws
 pub mod Places
 pub mod Seeking

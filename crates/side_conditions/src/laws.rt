@@ -1,8 +1,9 @@
 //! The frame law and its parts, each the contract of a function that does nothing.
-//! The statements are in `specs/FrameLaws.antt` and `specs/ApartLaws.antt`.
+//! The statements are in `specs/FrameLaws.antt`, `specs/ApartLaws.antt` and `specs/KeepLaws.antt`.
 
 ghost use Rattle.side_conditions.specs.ApartLaws.{ApartCommute, AssertlessIsQuiet};
 ghost use Rattle.side_conditions.specs.FrameLaws.{FrameLaw, WorkTellsOutcome, WritesTellStore, OthersKept, WithinText};
+ghost use Rattle.side_conditions.specs.KeepLaws.{UnwrittenExprKept, UnwrittenTestKept, UnwrittenNameKept};
 
 /// Steps from stores that agree on the cells that those from the first read: the same reads, the same
 /// writes of the same numbers, and the same work left.
@@ -38,4 +39,19 @@ pub fn apart_commute()
 /// A block in which no `assert` stands halts from no store.
 pub fn assertless_is_quiet()
     ensures { AssertlessIsQuiet }
+{}
+
+/// A block keeps the value of an expression of which it writes no name.
+pub fn unwritten_expr_kept()
+    ensures { UnwrittenExprKept }
+{}
+
+/// A block keeps the truth of a test of which it writes no name.
+pub fn unwritten_test_kept()
+    ensures { UnwrittenTestKept }
+{}
+
+/// A block keeps the variable of a name that it does not write.
+pub fn unwritten_name_kept()
+    ensures { UnwrittenNameKept }
 {}
