@@ -1,5 +1,6 @@
 pub mod Counting
 pub mod Different
+mod Examples
 pub mod Grown
 pub mod Growing
 pub mod Keeping
