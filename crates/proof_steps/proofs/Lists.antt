@@ -9,7 +9,7 @@ use Rattle.law_clauses.proofs.Same.{or_more}
 use Rattle.proof_steps.specs.declared.refutation.Step.{Step}
 use Rattle.proof_steps.specs.Cited.{fact, is_that, cited}
 use Rattle.proof_steps.specs.Steps.{is_given, all_negated}
-use Rattle.proof_steps.specs.Refutes.{denied, given_first}
+use Rattle.proof_steps.specs.Refutes.{denied, given_first, given_at}
 
 and_not : (p q : Bool) → q ≡ false → (p && q) ≡ false
 and_not true q f = f
@@ -35,6 +35,16 @@ denied_count earlier (k ∷ ks) (x ∷ xs) apart =
 pub any_append : (test : Signed → Bool) (xs ys : List Signed) → list_any test (xs ++ ys) ≡ (list_any test xs || list_any test ys)
 any_append test [] ys = refl
 any_append test (x ∷ xs) ys = ap (λ b. test x || b) (any_append test xs ys) ∙ or_more (test x) (list_any test xs) (list_any test ys)
+
+or_exchanged : (a b : Bool) → (a || b) ≡ (b || a)
+or_exchanged true true = refl
+or_exchanged true false = refl
+or_exchanged false true = refl
+or_exchanged false false = refl
+
+-- the few that are given first are looked at before all that is assumed
+pub given_either : (ob : Obligation) (assumed : List Signed) (x : Signed) → is_given (given_at ob assumed) x ≡ (is_given (given_first ob) x || list_any (signed_same x) assumed)
+given_either ob assumed x = any_append (signed_same x) assumed (given_first ob) ∙ or_exchanged (list_any (signed_same x) assumed) (is_given (given_first ob) x)
 
 pub given_parts : (ob : Obligation) (x : Signed) → is_given (given_first ob) x
     ≡ (list_any (signed_same x) (all_signed ob.path) || (list_any (signed_same x) (all_signed ob.goal.when) || list_any (signed_same x) (denied ob.goal.gives)))

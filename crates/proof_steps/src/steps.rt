@@ -20,12 +20,12 @@ use crate::refutation::{By, Step, SumRow};
 use crate::sums::is_summed;
 use rule_terms::{Literal, Obligation, ValueTerm};
 
-// One of the literals that are assumed on the way or given first.
-#[tactic(auto, using(crate::proofs::Lists::any_append))]
+// One of the literals that are assumed on the way or given first; the latter are few, so they are looked at before.
+#[tactic(auto, using(crate::proofs::Lists::given_either))]
 fn is_given(ob: &Obligation, assumed: &Assumed<'_>, x: &Literal) -> bool
     ensures { result ≡ is_given (given_at ob.now (assumed_list assumed.now)) (signed_of x.now) }
 {
-    is_assumed(assumed, x) || is_given_first(ob, x)
+    is_given_first(ob, x) || is_assumed(assumed, x)
 }
 
 fn follows(ob: &Obligation, assumed: &Assumed<'_>, earlier: &[Step], why: &By, x: &Literal) -> bool
