@@ -55,7 +55,7 @@ by_ends b s n e = record {
 }
 
 -- the same run from a store that agrees on its reads
-moved : (b : Block) (s u : Store) (n : ℕ) → (after n (before b []) s).work ≡ [] → Agree (reads n (before b []) s) s u → Ends b u (written u (writes n (before b []) s))
+pub moved : (b : Block) (s u : Store) (n : ℕ) → (after n (before b []) s).work ≡ [] → Agree (reads n (before b []) s) s u → Ends b u (written u (writes n (before b []) s))
 moved b s u n e agree =
     let same : SameSteps n (before b []) s u = frame n (before b []) s u agree in
     subst (λ ws. Ends b u (written u ws)) (sym same.same_writes) (by_ends b u n (sym same.same_work ∙ e))
@@ -64,7 +64,7 @@ moved b s u n e agree =
 flip : (c d : Cell) → c ≢ d → d ≢ c
 flip c d h e = h (sym e)
 
-past : (ws : List Write) (s : Store) (c : Cell) (v : ℤ) → IsApart c ws → written (write s c v) ws ≡ write (written s ws) c v
+pub past : (ws : List Write) (s : Store) (c : Cell) (v : ℤ) → IsApart c ws → written (write s c v) ws ≡ write (written s ws) c v
 past [] s c v h = refl
 past (w ∷ ws) s c v h = ap (λ u. written u ws) (writes_commute s c w.0 v w.1 (flip c w.0 h.0)) ∙ past ws (write s w.0 w.1) c v h.1
 

@@ -23,7 +23,7 @@ use Rattle.side_conditions.proofs.Within.{expr_apart, test_apart, block_writes_o
 use Rattle.side_conditions.proofs.Apart.{EndsBy, ends_by}
 
 -- a write into a cell of another name than all of these
-agree_beside : (cs : List Cell) (s : Store) (c : Cell) (v : ℤ) → Each (λ (d : Cell). d.0 ≢ c.0) cs → Agree cs s (write s c v)
+pub agree_beside : (cs : List Cell) (s : Store) (c : Cell) (v : ℤ) → Each (λ (d : Cell). d.0 ≢ c.0) cs → Agree cs s (write s c v)
 agree_beside [] s c v h = tt
 agree_beside (d ∷ cs) s c v h = (sym (write_keeps_others s c v d (λ e. h.0 (ap (λ (f : Cell). f.0) e))), agree_beside cs s c v h.1)
 

@@ -1,8 +1,10 @@
 //! The frame law and its parts, each the contract of a function that does nothing.
-//! The statements are in `specs/FrameLaws.antt`, `specs/ApartLaws.antt` and `specs/KeepLaws.antt`.
+//! The statements are in `specs/FrameLaws.antt`, `specs/ApartLaws.antt`, `specs/KeepLaws.antt` and
+//! `specs/IgnoreLaws.antt`.
 
 ghost use Rattle.side_conditions.specs.ApartLaws.{ApartCommute, AssertlessIsQuiet};
 ghost use Rattle.side_conditions.specs.FrameLaws.{FrameLaw, WorkTellsOutcome, WritesTellStore, OthersKept, WithinText};
+ghost use Rattle.side_conditions.specs.IgnoreLaws.{AbsentIgnoredByExpr, AbsentIgnoredByTest, AbsentIgnoredByStmt};
 ghost use Rattle.side_conditions.specs.KeepLaws.{UnwrittenExprKept, UnwrittenTestKept, UnwrittenNameKept};
 
 /// Steps from stores that agree on the cells that those from the first read: the same reads, the same
@@ -54,4 +56,19 @@ pub fn unwritten_test_kept()
 /// A block keeps the variable of a name that it does not write.
 pub fn unwritten_name_kept()
     ensures { UnwrittenNameKept }
+{}
+
+/// Writing a cell of a name that an expression does not hold leaves its value.
+pub fn absent_ignored_by_expr()
+    ensures { AbsentIgnoredByExpr }
+{}
+
+/// Writing a cell of a name that a test does not hold leaves its truth.
+pub fn absent_ignored_by_test()
+    ensures { AbsentIgnoredByTest }
+{}
+
+/// A cell of a name that a block neither reads nor writes may be written before the block or behind it.
+pub fn absent_ignored_by_stmt()
+    ensures { AbsentIgnoredByStmt }
 {}

@@ -1,0 +1,5 @@
+use Rattle.side_conditions.proofs.Ignoring.{absent_ignored_by_test}
+use Rattle.side_conditions.proofs.laws.absent_ignored_by_test.Goals as goal
+
+pub returns : goal.returns
+returns c = absent_ignored_by_test
