@@ -1,4 +1,4 @@
--- Worked rows: what texts read and write, and the reads and writes of a run.
+-- Worked rows: which names a text reads and writes, and whether an `assert` stands in it.
 -- The block `a[i] := x + 1; for k = 0 to n { let y = k { assert y < z; } }`, in which each kind of place stands.
 use Rattle.std.specs.Prelude.{◌≡◌, ℕ, pos, true, false, [], ◌∷◌, refl}
 use Rattle.toy_imp.specs.declared.name.Name.{Name}
