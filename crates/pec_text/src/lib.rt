@@ -14,6 +14,7 @@ mod token;
 
 pub use id::{LONGEST_ID, is_id};
 pub use lexer::{LexRefusal, one_reading, takes_longest, tokens};
+pub use line::{first_kept, first_word};
 pub use no_memory::NoMemory;
 pub use section_data::{Section, SectionKind, SectionList, TextRefusal};
 pub use section_text::{every_text_has_one_list, sections};

@@ -47,6 +47,7 @@ pub fn first_kept(bytes: &[u8]) -> Option<(&[u8], &[u8])>
 /// The first word of a line, and the bytes after it.
 pub fn first_word(line: &[u8]) -> Option<(&[u8], &[u8])>
     ensures found { IfSome result (λ p. words line.now ≡ p.0.now ∷ words p.1.now) }
+    ensures shorter { IfSome result (λ p. length p.1.now < length line.now) }
     ensures none { IfNone result (words line.now ≡ []) }
 {
     let start = line.iter().position(|b| !is_blank(*b))?;
