@@ -17,7 +17,8 @@ use Rattle.entry_pairs.proofs.AllPassing.{all_so}
 use Rattle.proof_steps.proofs.Soundness.{refuted_holds}
 use Rattle.spot_obligations.specs.declared.entry.Entry.{Entry}
 use Rattle.spot_obligations.specs.declared.entry.Spot.{Spot}
-use Rattle.spot_obligations.specs.Owed.{sides_equal, pair_of}
+use Rattle.rule_terms.specs.Goals.{sides_equal}
+use Rattle.spot_obligations.specs.Owed.{pair_of}
 use Rattle.spot_obligations.specs.PathsOfEntry.{is_exit, is_within, are_inside}
 use Rattle.spot_obligations.specs.Obligations.{AtSpot, at_spot, obligation_of, with_known, obligation_at}
 use Rattle.spot_obligations.specs.Spots.{spots}

@@ -20,10 +20,11 @@ use Rattle.path_pairs.specs.Paths.{side_paths, has_long_walk}
 use Rattle.path_pairs.specs.Walks.{stmt_step, walks, goes_on}
 use Rattle.entry_pairs.specs.Cuts.{walked, cuts}
 use Rattle.proof_steps.specs.Refutes.{refutes}
-use Rattle.proof_steps.specs.declared.refutation.Refutation.{Refutation}
+use Rattle.refutations.specs.declared.refutation.Refutation.{Refutation}
 use Rattle.spot_obligations.specs.declared.entry.Entry.{Entry}
 use Rattle.spot_obligations.specs.declared.entry.Spot.{Spot}
-use Rattle.spot_obligations.specs.Owed.{sides_equal, owed}
+use Rattle.rule_terms.specs.Goals.{sides_equal}
+use Rattle.spot_obligations.specs.Owed.{owed}
 use Rattle.spot_obligations.specs.Obligations.{among_paths, at_spot, obligation_of, obligation_at}
 use Rattle.spot_obligations.specs.Spots.{spot_at, over_numbered, spots}
 use Rattle.rule_simulation.specs.Shown.{plain}

@@ -8,7 +8,7 @@ use Rattle.rule_terms.specs.Counts.{obligation_nodes}
 use Rattle.rule_terms.specs.declared.obligation.Obligation.{Obligation}
 use Rattle.path_pairs.specs.declared.cut_points.CutPoints.{CutPoints}
 use Rattle.proof_steps.specs.Refutes.{refutes}
-use Rattle.proof_steps.specs.declared.refutation.Refutation.{Refutation}
+use Rattle.refutations.specs.declared.refutation.Refutation.{Refutation}
 use Rattle.spot_obligations.specs.declared.entry.Entry.{Entry}
 use Rattle.spot_obligations.specs.declared.entry.Spot.{Spot}
 use Rattle.spot_obligations.specs.declared.obligation_at.ObligationAt.TheVariants.{Found, Heavy}

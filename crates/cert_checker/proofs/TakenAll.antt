@@ -8,7 +8,7 @@ use Rattle.rule_terms.specs.declared.obligation.Conjunct.{Conjunct}
 use Rattle.rule_terms.specs.declared.obligation.Obligation.{Obligation}
 use Rattle.rule_terms.specs.declared.path.Path.{Path}
 use Rattle.path_pairs.specs.declared.cut_points.CutPoints.{CutPoints}
-use Rattle.proof_steps.specs.declared.refutation.Refutation.{Refutation}
+use Rattle.refutations.specs.declared.refutation.Refutation.{Refutation}
 use Rattle.spot_obligations.specs.declared.entry.Entry.{Entry}
 use Rattle.spot_obligations.specs.declared.entry.Spot.{Spot}
 use Rattle.spot_obligations.specs.Owed.{Owed, each, one, nothing, owed, numbered_from, owed_numbers, owed_at}

@@ -3,7 +3,8 @@ use Rattle.std.specs.Prelude.{◌≡◌, true, [], ◌∷◌}
 use Rattle.toy_imp.specs.declared.rule.Rule.{Rule}
 use Rattle.toy_imp.specs.Faults.{same_pair}
 use Rattle.spot_obligations.specs.declared.entry.Entry.{Entry}
-use Rattle.spot_obligations.specs.Owed.{sides_equal, pair_of}
+use Rattle.rule_terms.specs.Goals.{sides_equal}
+use Rattle.spot_obligations.specs.Owed.{pair_of}
 use Rattle.spot_obligations.specs.PathsOfEntry.{is_exit}
 
 -- `L = R` is all that is said at an entry

@@ -7,7 +7,7 @@ use Rattle.rule_terms.specs.declared.obligation.Conjunct.{Conjunct}
 use Rattle.rule_terms.specs.declared.path.Path.{Path}
 use Rattle.path_pairs.specs.declared.cut_points.CutPoints.{CutPoints}
 use Rattle.proof_steps.specs.Refutes.{refutes}
-use Rattle.proof_steps.specs.declared.refutation.Refutation.{Refutation}
+use Rattle.refutations.specs.declared.refutation.Refutation.{Refutation}
 use Rattle.spot_obligations.specs.declared.entry.Entry.{Entry}
 use Rattle.spot_obligations.specs.declared.entry.Spot.{Spot}
 use Rattle.spot_obligations.specs.declared.obligation_at.ObligationAt.{ObligationAt}

@@ -1,6 +1,6 @@
 //! Certificates. `specs/Certificates.antt` says which of them prove their rule.
 
-use proof_steps::Refutation;
+use refutations::Refutation;
 use spot_obligations::{Entry, Spot};
 use sqlite_items::Items;
 

@@ -12,8 +12,8 @@ ghost use Rattle.cert_checker.specs.Beginnings.{BeginsSo, IsPlain};
 
 use path_pairs::{CutPoints, block_points};
 use rule_faults::repeats_pair;
-use rule_terms::Conjunct;
-use spot_obligations::{Entry, is_exit, sides_equal};
+use rule_terms::{Conjunct, sides_equal};
+use spot_obligations::{Entry, is_exit};
 use sqlite_items::Items;
 use std::alloc::Global;
 use toy_imp::{NoMemory, Rule};

@@ -3,17 +3,16 @@
 //! time.
 
 ghost use Rattle.std.specs.Prelude.{◌≡◌, None, IfOk};
-ghost use Rattle.spot_obligations.specs.Owed as owed;
+ghost use Rattle.rule_terms.specs.Goals as goals;
 ghost use Rattle.cert_checker.specs.Taking as spec;
 ghost use Rattle.cert_checker.specs.Taking.{around_of, pair_of, spot_of, along, taken_numbered};
 ghost use Rattle.cert_checker.specs.Taking.{taken_left, taken_paths};
 
 use crate::certificate::Proved;
-use proof_steps::{Refutation, refutes};
-use rule_terms::{Conjunct, Path};
-use spot_obligations::{
-    Entry, ObligationAt, Owed, Spot, falsehood, paths_owe, sides_equal, weighed_obligation,
-};
+use proof_steps::refutes;
+use refutations::Refutation;
+use rule_terms::{Conjunct, Path, falsehood, sides_equal};
+use spot_obligations::{Entry, ObligationAt, Owed, Spot, paths_owe, weighed_obligation};
 use std::alloc::Global;
 use toy_imp::{NoMemory, Rule};
 
@@ -143,7 +142,7 @@ fn take_each(
 
 // .. for `L = R` without a number.
 fn take_equal(alloc: Global, here: Pair<'_>, at: usize) -> Result<Option<usize>, NoMemory>
-    ensures { IfOk result (λ n. n ≡ spec.taken_one (pair_of here.entry) None owed.sides_equal at) }
+    ensures { IfOk result (λ n. n ≡ spec.taken_one (pair_of here.entry) None goals.sides_equal at) }
 {
     let goal = sides_equal(alloc);
     take_one(alloc, here, None, &goal, at)
@@ -151,7 +150,7 @@ fn take_equal(alloc: Global, here: Pair<'_>, at: usize) -> Result<Option<usize>,
 
 // .. for what is never true.
 fn take_never(alloc: Global, here: Pair<'_>, at: usize) -> Result<Option<usize>, NoMemory>
-    ensures { IfOk result (λ n. n ≡ spec.taken_one (pair_of here.entry) None owed.falsehood at) }
+    ensures { IfOk result (λ n. n ≡ spec.taken_one (pair_of here.entry) None goals.falsehood at) }
 {
     let goal = falsehood(alloc);
     take_one(alloc, here, None, &goal, at)

@@ -2,7 +2,7 @@
 
 use cert_checker::{Certificate, Entry, ObligationAt, Proved, Spot, check, obligation};
 use program_examples::rule;
-use proof_steps::{By, Refutation, Step};
+use refutations::{By, Refutation, Step};
 use rule_terms::{Atom, Conjunct, Literal, StoreTerm};
 use sqlite_items::Items;
 use std::alloc::Global;

@@ -37,7 +37,8 @@ use Rattle.path_pairs.specs.RulePaths.{TellsPaths, OnePlace, literals_of, Covers
 use Rattle.path_pairs.proofs.RulePaths.{rule_path_law, one_place, covers_each_list, literals_cover_paths}
 use Rattle.entry_pairs.proofs.AllPassing.{all_both}
 use Rattle.spot_obligations.specs.declared.entry.Entry.{Entry}
-use Rattle.spot_obligations.specs.Owed.{Owed, one, nothing, sides_equal, falsehood, is_quiet, stands_at, entry_at, arrival, owed, owed_at}
+use Rattle.rule_terms.specs.Goals.{sides_equal, falsehood}
+use Rattle.spot_obligations.specs.Owed.{Owed, one, nothing, is_quiet, stands_at, entry_at, arrival, owed, owed_at}
 use Rattle.spot_obligations.specs.PathsOfEntry.{lefts, rights, is_exit, is_walked}
 use Rattle.spot_obligations.specs.Obligations.{AtSpot, with_goal, with_right, with_left, among_paths, with_entry, at_spot, obligation_of}
 use Rattle.rule_simulation.specs.Shown.{IsOpen, IsShown, Shown}

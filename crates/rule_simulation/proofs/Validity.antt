@@ -28,7 +28,7 @@ use Rattle.path_pairs.proofs.Comings.{comes_self, reaches_before, run_behind}
 use Rattle.path_pairs.proofs.OnePaths.{all_is_left_at_start, run_ends_at_exit}
 use Rattle.path_pairs.proofs.OpenSides.{sides_have_no_scope}
 use Rattle.spot_obligations.specs.declared.entry.Entry.{Entry}
-use Rattle.spot_obligations.specs.Owed.{sides_equal}
+use Rattle.rule_terms.specs.Goals.{sides_equal}
 use Rattle.spot_obligations.specs.PathsOfEntry.{is_exit}
 use Rattle.rule_simulation.specs.Shown.{plain, Shown}
 use Rattle.rule_simulation.proofs.Outcomes.{comes_out, coded, told}

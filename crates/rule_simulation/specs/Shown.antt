@@ -7,7 +7,8 @@ use Rattle.path_pairs.specs.declared.cut_points.CutPoints.{CutPoints}
 use Rattle.entry_pairs.specs.EntryLists.{IsBefore}
 use Rattle.spot_obligations.specs.declared.entry.Entry.{Entry}
 use Rattle.spot_obligations.specs.declared.entry.Spot.{Spot}
-use Rattle.spot_obligations.specs.Owed.{sides_equal, pair_of}
+use Rattle.rule_terms.specs.Goals.{sides_equal}
+use Rattle.spot_obligations.specs.Owed.{pair_of}
 use Rattle.spot_obligations.specs.PathsOfEntry.{is_exit, is_within}
 use Rattle.spot_obligations.specs.Obligations.{AtSpot, at_spot, obligation_of}
 

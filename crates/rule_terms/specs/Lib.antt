@@ -1,5 +1,6 @@
 pub mod Added
 pub mod Counts
+pub mod Goals
 pub mod Listed
 pub mod Order
 pub mod Parts

@@ -177,7 +177,8 @@ pub fn same_condition(a: &Condition, b: &Condition) -> bool
     }
 }
 
-fn same_conditions(a: &[Condition], b: &[Condition]) -> bool
+/// Whether the two lists of conditions are equal.
+pub fn same_conditions(a: &[Condition], b: &[Condition]) -> bool
     ensures { IsTrue result ↔ (a.now ≡ b.now) }
 {
     if a.len() != b.len() {

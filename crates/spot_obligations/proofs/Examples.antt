@@ -18,7 +18,8 @@ use Rattle.path_pairs.specs.Paths.{side_paths, has_long_walk}
 use Rattle.path_pairs.specs.Walks.{stmt_step, walks, goes_on}
 use Rattle.spot_obligations.specs.declared.entry.Entry.{Entry}
 use Rattle.spot_obligations.specs.declared.entry.Spot.{Spot}
-use Rattle.spot_obligations.specs.Owed.{one, nothing, sides_equal, falsehood, is_quiet, owed}
+use Rattle.rule_terms.specs.Goals.{sides_equal, falsehood}
+use Rattle.spot_obligations.specs.Owed.{one, nothing, is_quiet, owed}
 use Rattle.spot_obligations.specs.Obligations.{among_paths, at_spot, obligation_of, obligation_at}
 use Rattle.spot_obligations.specs.Spots.{spot_at, over_numbered, spots}
 

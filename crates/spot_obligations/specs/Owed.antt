@@ -5,21 +5,12 @@ use Rattle.std.specs.Prelude.{ℕ, suc, Bool, cond, true, false, ◌&&◌, ◌||
 use Rattle.std.specs.List.{list_any}
 use Rattle.toy_imp.specs.declared.condition.Condition.{Condition}
 use Rattle.toy_imp.specs.declared.condition.Condition.TheVariants as condition
-use Rattle.rule_terms.specs.Term.{left_store, right_store}
-use Rattle.rule_terms.specs.declared.obligation.Atom.TheVariants.{SameStore}
+use Rattle.rule_terms.specs.Goals.{sides_equal, falsehood}
 use Rattle.rule_terms.specs.declared.obligation.Conjunct.{Conjunct}
 use Rattle.rule_terms.specs.declared.path.Stop.{Stop}
 use Rattle.rule_terms.specs.declared.path.Stop.TheVariants.{At, Halted, Stuck}
 use Rattle.spot_obligations.specs.declared.entry.Entry.{Entry}
 use Rattle.spot_obligations.specs.declared.owed.Owed as code
-
--- L = R
-abbrev pub sides_equal : Conjunct
-sides_equal = record { when = []; gives = Some (record { sign = true; atom = SameStore left_store right_store }) }
-
--- what is true at no stores
-abbrev pub falsehood : Conjunct
-falsehood = record { when = []; gives = None }
 
 -- A statement parameter is quiet in a rule where a condition `quiet`, `commutes` or `swaps` names it: each says that it halts from
 -- no store.

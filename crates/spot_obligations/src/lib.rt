@@ -13,6 +13,6 @@ mod quiet;
 pub use entry::{Entry, Spot};
 pub use obligation_at::ObligationAt;
 pub use obligations::{is_exit, obligation, obligation_among};
-pub use owed::{Owed, falsehood, owed_at, paths_owe, sides_equal};
+pub use owed::{Owed, owed_at, paths_owe};
 pub use pair_obligation::{obligation_of, weighed_obligation};
 pub use paths_of_entry::{EntryPaths, entry_paths};

@@ -6,8 +6,7 @@ ghost use Rattle.spot_obligations.specs.Owed.{stands_at, owed_of};
 
 use crate::entry::Entry;
 use crate::quiet::is_quiet;
-use rule_terms::{Atom, Conjunct, Literal, Stop, StoreTerm};
-use sqlite_items::Items;
+use rule_terms::{Conjunct, Stop, falsehood, sides_equal};
 use std::alloc::Global;
 use toy_imp::{Condition, NoMemory};
 
@@ -21,29 +20,6 @@ pub enum Owed<'a> {
     /// What is never true, without a number.
     Falsehood,
     Nothing,
-}
-
-/// `L = R`.
-pub fn sides_equal(alloc: Global) -> Conjunct
-    ensures { result ≡ spec.sides_equal }
-{
-    Conjunct {
-        when: Items::new(alloc),
-        gives: Some(Literal {
-            sign: true,
-            atom: Atom::SameStore(StoreTerm::left(), StoreTerm::right()),
-        }),
-    }
-}
-
-/// What is true at no stores.
-pub fn falsehood(alloc: Global) -> Conjunct
-    ensures { result ≡ spec.falsehood }
-{
-    Conjunct {
-        when: Items::new(alloc),
-        gives: None,
-    }
 }
 
 fn stands_at(e: &Entry, p: u32, q: u32) -> bool

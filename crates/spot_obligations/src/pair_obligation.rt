@@ -12,10 +12,12 @@ ghost use Rattle.spot_obligations.specs.Obligations.{obligation_of, is_heavy, we
 
 use crate::obligation_at::ObligationAt;
 use parallel_wp::{goal_at, weigh};
-use rule_terms::{Conjunct, Literal, Obligation, Path, copy_conjuncts, copy_literals};
+use rule_terms::{
+    Conjunct, Literal, Obligation, Path, copy_conditions, copy_conjuncts, copy_literals,
+};
 use sqlite_items::Items;
 use std::alloc::Global;
-use toy_imp::{Condition, Kind, NoMemory, Param, Rule};
+use toy_imp::{Kind, NoMemory, Param, Rule};
 
 /// The most nodes of an obligation that is built.
 const MOST_NODES: u64 = 4096;
@@ -26,17 +28,6 @@ fn kinds_of(alloc: Global, params: &[Param]) -> Result<Items<Kind>, NoMemory>
     let mut all = Items::new(alloc);
     for p in params {
         all.push(p.kind)?;
-    }
-    Ok(all)
-}
-
-fn copy_conditions(alloc: Global, conditions: &[Condition]) -> Result<Items<Condition>, NoMemory>
-    ensures { IfOk result (λ all. all ≡ conditions.now) }
-{
-    let mut all = Items::new(alloc);
-    for c in conditions {
-        let copy = c.copy(alloc)?;
-        all.push(copy)?;
     }
     Ok(all)
 }

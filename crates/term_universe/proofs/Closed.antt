@@ -99,11 +99,13 @@ obligation_closed ob =
     closed_two (conjuncts_parts ob.known) (literals_parts ob.path ++ conjunct_parts ob.goal) (closed_flat conjunct_parts conjunct_closed ob.known)
     (closed_two (literals_parts ob.path) (conjunct_parts ob.goal) (literals_closed ob.path) (conjunct_closed ob.goal))
 
--- a store term or value term that occurs is in what is near the parts
-abbrev Near : List StoreTerm → List ValueTerm → Part → Type 0
-Near ss vs (a_store s) = In s ss
-Near ss vs (a_value v) = In v vs
-Near ss vs _ = Unit {0}
+-- a store term or value term that occurs is in what is near the parts; what is read of stores is among the parts
+abbrev Near : List Part → List StoreTerm → List ValueTerm → Part → Type 0
+Near ps ss vs (a_store s) = In s ss
+Near ps ss vs (a_value v) = In v vs
+Near ps ss vs (a_place p) = In (a_place p) ps
+Near ps ss vs (an_expr k) = In (an_expr k) ps
+Near ps ss vs (a_test k) = In (a_test k) ps
 
 module _ (cs : List Condition) (ps : List Part) (closed : Closed ps) where
   abbrev ss : List StoreTerm
@@ -112,22 +114,22 @@ module _ (cs : List Condition) (ps : List Part) (closed : Closed ps) where
   abbrev vs : List ValueTerm
   vs = values_near ss ps
 
-  occurs : (p : Part) → In p ps → Near ss vs p
+  occurs : (p : Part) → In p ps → Near ps ss vs p
   occurs (a_store s) h = inr (inr (in_left (stores_among ps) (flat_map (exchanged cs) (stores_among ps)) s (in_flat store_in ps (a_store s) s h (inl refl))))
   occurs (a_value v) h = inr (inr (in_left (values_among ps) (flat_map (λ s. flat_map (reading s) ps) ss) v (in_flat value_in ps (a_value v) v h (inl refl))))
-  occurs (a_place p) h = tt
-  occurs (an_expr k) h = tt
-  occurs (a_test k) h = tt
+  occurs (a_place p) h = h
+  occurs (an_expr k) h = h
+  occurs (a_test k) h = h
 
   -- all that occurs in a list of parts is near
   abbrev AllNear : List Part → Type 0
-  AllNear qs = (p : Part) → In p qs → Near ss vs p
+  AllNear qs = (p : Part) → In p qs → Near ps ss vs p
 
   near_two : (xs ys : List Part) → AllNear xs → AllNear ys → AllNear (xs ++ ys)
   near_two xs ys f g p h = elim (in_either xs ys p h) [ inl a ↦ f p a | inr b ↦ g p b ]
 
-  near_top : (top : Part) (qs : List Part) → Near ss vs top → AllNear qs → AllNear (top ∷ qs)
-  near_top top qs n f p (inl e) = subst (Near ss vs) e n
+  near_top : (top : Part) (qs : List Part) → Near ps ss vs top → AllNear qs → AllNear (top ∷ qs)
+  near_top top qs n f p (inl e) = subst (Near ps ss vs) e n
   near_top top qs n f p (inr h) = f p h
 
   -- what occurs in a part is near
@@ -190,11 +192,11 @@ module _ (cs : List Condition) (ps : List Part) (closed : Closed ps) where
   commuted_near (run a (put t x is v)) s h k all = elim k [ ]
 
   -- a write into a store, all of it near
-  put_near : (u : StoreTerm) (x : ℕ) (is : ValueTerms) (v : ValueTerm) → In (put u x is v) ss → AllNear (store_parts u) → AllNear (terms_parts is) → AllNear (value_parts v) → AllNear (store_parts (put u x is v))
+  put_near : (u : StoreTerm) (x : ℕ) (is : ValueTerms) (v : ValueTerm) → In (a_place (record { name = x; indices = is })) ps → In (put u x is v) ss → AllNear (store_parts u) → AllNear (terms_parts is) → AllNear (value_parts v) → AllNear (store_parts (put u x is v))
   unfolding store_parts
-  put_near u x is v h a b c =
+  put_near u x is v there h a b c =
       near_top (a_store (put u x is v)) (a_place (record { name = x; indices = is }) ∷ (store_parts u ++ (terms_parts is ++ value_parts v))) h
-      (near_top (a_place (record { name = x; indices = is })) (store_parts u ++ (terms_parts is ++ value_parts v)) tt
+      (near_top (a_place (record { name = x; indices = is })) (store_parts u ++ (terms_parts is ++ value_parts v)) there
       (near_two (store_parts u) (terms_parts is ++ value_parts v) a (near_two (terms_parts is) (value_parts v) b c)))
 
   run_near : (k : ℕ) (u : StoreTerm) → In (run k u) ss → AllNear (store_parts u) → AllNear (store_parts (run k u))
@@ -207,6 +209,7 @@ module _ (cs : List Condition) (ps : List Part) (closed : Closed ps) where
       let made_two : List StoreTerm = run j u ∷ put (run j u) x is v ∷ [] in
       let tested = by_test (ignores cs j x) made_two s k in
       let whole : AllNear (store_parts (run j (put u x is v))) = near_part (a_store (run j (put u x is v))) h in
+      let place : In (a_place (record { name = x; indices = is })) ps = whole (a_place (record { name = x; indices = is })) (inr (inr (inl refl))) in
       let stores : AllNear (store_parts u) = λ p q. whole p (inr (inr (inr (in_left (store_parts u) (terms_parts is ++ value_parts v) p q)))) in
       let indices : AllNear (terms_parts is) = λ p q. whole p (inr (inr (inr (in_right (store_parts u) (terms_parts is ++ value_parts v) p (in_left (terms_parts is) (value_parts v) p q))))) in
       let values : AllNear (value_parts v) = λ p q. whole p (inr (inr (inr (in_right (store_parts u) (terms_parts is ++ value_parts v) p (in_right (terms_parts is) (value_parts v) p q))))) in
@@ -215,7 +218,7 @@ module _ (cs : List Condition) (ps : List Part) (closed : Closed ps) where
       elim tested.1 [
         | inl e ↦ subst (λ y. AllNear (store_parts y)) e (run_near j u one stores)
         | inr m ↦ elim m [
-          | inl e ↦ subst (λ y. AllNear (store_parts y)) e (put_near (run j u) x is v two (run_near j u one stores) indices values)
+          | inl e ↦ subst (λ y. AllNear (store_parts y)) e (put_near (run j u) x is v place two (run_near j u one stores) indices values)
           | inr n ↦ elim n [ ]
         ]
       ]
@@ -232,12 +235,13 @@ module _ (cs : List Condition) (ps : List Part) (closed : Closed ps) where
       let made_two : List StoreTerm = put u x is v ∷ run j (put u x is v) ∷ [] in
       let tested = by_test (ignores cs j x) made_two s k in
       let whole : AllNear (store_parts (put (run j u) x is v)) = near_part (a_store (put (run j u) x is v)) h in
+      let place : In (a_place (record { name = x; indices = is })) ps = whole (a_place (record { name = x; indices = is })) (inr (inl refl)) in
       let stores : AllNear (store_parts u) = λ p q. whole p (inr (inr (in_left (store_parts (run j u)) (terms_parts is ++ value_parts v) p (inr q)))) in
       let indices : AllNear (terms_parts is) = λ p q. whole p (inr (inr (in_right (store_parts (run j u)) (terms_parts is ++ value_parts v) p (in_left (terms_parts is) (value_parts v) p q)))) in
       let values : AllNear (value_parts v) = λ p q. whole p (inr (inr (in_right (store_parts (run j u)) (terms_parts is ++ value_parts v) p (in_right (terms_parts is) (value_parts v) p q)))) in
       let one : In (put u x is v) ss = all (put u x is v) (when_true (ignores cs j x) made_two (put u x is v) tested.0 (inl refl)) in
       let two : In (run j (put u x is v)) ss = all (run j (put u x is v)) (when_true (ignores cs j x) made_two (run j (put u x is v)) tested.0 (inr (inl refl))) in
-      let written : AllNear (store_parts (put u x is v)) = put_near u x is v one stores indices values in
+      let written : AllNear (store_parts (put u x is v)) = put_near u x is v place one stores indices values in
       elim tested.1 [
         | inl e ↦ subst (λ y. AllNear (store_parts y)) e written
         | inr m ↦ elim m [
@@ -290,13 +294,13 @@ module _ (cs : List Condition) (ps : List Part) (closed : Closed ps) where
       let here : In (get p.name p.indices s) vs = subst (λ w. In w vs) (sym e) there in
       subst (λ w. AllNear (value_parts w)) e
       (near_top (a_value (get p.name p.indices s)) (a_place p ∷ (terms_parts p.indices ++ store_parts s)) here
-      (near_top (a_place p) (terms_parts p.indices ++ store_parts s) tt
+      (near_top (a_place p) (terms_parts p.indices ++ store_parts s) k
       (near_two (terms_parts p.indices) (store_parts s) (near_part (a_place p) k) (store_near s h))))
   reading_near s (a_place p) v h k (inr m) there = elim m [ ]
   reading_near s (an_expr j) v h k (inl e) there =
       let here : In (ev j s) vs = subst (λ w. In w vs) (sym e) there in
       subst (λ w. AllNear (value_parts w)) e
-      (near_top (a_value (ev j s)) (an_expr j ∷ store_parts s) here (near_top (an_expr j) (store_parts s) tt (store_near s h)))
+      (near_top (a_value (ev j s)) (an_expr j ∷ store_parts s) here (near_top (an_expr j) (store_parts s) k (store_near s h)))
   reading_near s (an_expr j) v h k (inr m) there = elim m [ ]
   reading_near s (a_store t) v h k m there = elim m [ ]
   reading_near s (a_value w) v h k m there = elim m [ ]
@@ -330,12 +334,24 @@ module _ (cs : List Condition) (ps : List Part) (closed : Closed ps) where
       let q : Source (test_of o.item) ps t = source (test_of o.item) ps t o.its in
       subst (λ s. In s ss) (the_test o.item q.item t q.its) o.there
 
-in_universe : (ob : Obligation) (p : Part) → Near (universe_stores ob) (universe_values ob) p → InUniverse ob p
+-- what a part reads of a store of the universe
+read_there : (ob : Obligation) (s : StoreTerm) (x : Part) (v : ValueTerm) → Contains (universe_stores ob) s → In x (obligation_parts ob) → In v (reading s x) → In v (universe_values ob)
+unfolding universe_values
+read_there ob s x v k h r =
+    inr (inr (in_right (values_among (obligation_parts ob)) (flat_map (λ t. flat_map (reading t) (obligation_parts ob)) (universe_stores ob)) v
+    (in_flat (λ t. flat_map (reading t) (obligation_parts ob)) (universe_stores ob) s v (in_from (universe_stores ob) s k) (in_flat (reading s) (obligation_parts ob) x v h r))))
+
+in_universe : (ob : Obligation) (p : Part) → Near (obligation_parts ob) (universe_stores ob) (universe_values ob) p → InUniverse ob p
+unfolding universe_stores universe_values universe_tests
 in_universe ob (a_store s) h = from_in (universe_stores ob) s h
 in_universe ob (a_value v) h = from_in (universe_values ob) v h
-in_universe ob (a_place p) h = tt
-in_universe ob (an_expr k) h = tt
-in_universe ob (a_test k) h = tt
+in_universe ob (a_place p) h = λ s k. from_in (universe_values ob) (get p.name p.indices s) (read_there ob s (a_place p) (get p.name p.indices s) k h (inl refl))
+in_universe ob (an_expr j) h = λ s k. from_in (universe_values ob) (ev j s) (read_there ob s (an_expr j) (ev j s) k h (inl refl))
+in_universe ob (a_test j) h = λ s k. from_in (universe_tests ob) (j, s) (in_flat (λ t. flat_map (test_of t) (obligation_parts ob)) (universe_stores ob) s (j, s) (in_from (universe_stores ob) s k) (in_flat (test_of s) (obligation_parts ob) (a_test j) (j, s) h (inl refl)))
+
+occurrences_hold : (ob : Obligation) (p : Part) → Contains (obligation_parts ob) p → InUniverse ob p
+unfolding universe_stores universe_values
+occurrences_hold ob p h = in_universe ob p (occurs ob.conditions (obligation_parts ob) (obligation_closed ob) p (in_from (obligation_parts ob) p h))
 
 stores_hold : (ob : Obligation) (s : StoreTerm) → Contains (universe_stores ob) s → (p : Part) → Contains (store_parts s) p → InUniverse ob p
 unfolding universe_stores universe_values
@@ -350,7 +366,7 @@ unfolding universe_stores universe_tests
 tests_hold ob t h = from_in (universe_stores ob) t.1 (test_near ob.conditions (obligation_parts ob) (obligation_closed ob) t (in_from (universe_tests ob) t h))
 
 pub subterms_are_there : SubtermsAreThere
-subterms_are_there = (stores_hold, values_hold, tests_hold)
+subterms_are_there = (occurrences_hold, stores_hold, values_hold, tests_hold)
 
 -- the order of what is known
 

@@ -1,4 +1,6 @@
 pub mod Least
+pub mod Limits
+pub mod Names
 pub mod NewReadings
 pub mod Tallies
 pub mod Universe

@@ -3,7 +3,8 @@
 
 ghost use Rattle.term_universe.specs.UniverseLaws.{SubtermsAreThere, OrderIsFree};
 
-/// The universe holds the store terms and value terms that occur in its terms.
+/// The universe holds what occurs in the obligation and in its own terms: store terms and value terms, what is read at
+/// each of its stores, and tests at each of them.
 pub fn subterms_are_there()
     ensures { SubtermsAreThere }
 {}
