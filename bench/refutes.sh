@@ -1,6 +1,7 @@
 #!/usr/bin/env bash
 # Times a leaf of 4,000 steps against one of 1,000, and says how many steps a second `refutes` looks at; where metamath
-# is installed, beside the steps a second that it verifies of theorems of as many steps.
+# is installed, beside the steps a second that it verifies of theorems of as many steps. Then 47,600 splits in splits,
+# as many as 1 MiB of text holds, against 11,900: made and looked at, and copied and dropped.
 set -euo pipefail
 # shellcheck source=bench/timing.sh
 source "$(dirname "${BASH_SOURCE[0]}")/timing.sh"
@@ -36,11 +37,22 @@ verifies() {
   processor_seconds 3 1 /dev/null metamath "read \"$1\"" "verify proof *" exit
 }
 
+# splits WHAT SHAPE: what is done once with 47,600 splits, each in a branch of the one before, against 11,900 of them.
+splits() {
+  ratio "$1 of 47,600 splits in the $2 branch, against 11,900" \
+    "$(processor_seconds 5 1 /dev/null "${bench:?}" "$1" "$2" 47600 10)" \
+    "$(processor_seconds 5 1 /dev/null "${bench:?}" "$1" "$2" 11900 10)" 6
+}
+
 small=$(looks 1000 4000)
 large=$(looks 4000 4000)
 status=0
 ratio "4,000 looks at a leaf of 4,000 steps, against one of 1,000" "$large" "$small" 6 || status=1
 awk -v large="$large" 'BEGIN { printf "%.0f steps a second\n", 4000 * 4000 / large }'
+for shape in first second; do
+  splits refutes "$shape" || status=1
+  splits copies "$shape" || status=1
+done
 if command -v metamath > /dev/null; then
   theorems 50 4000 > "$folder/theorems.mm"
   took=$(verifies "$folder/theorems.mm")

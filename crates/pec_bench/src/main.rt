@@ -44,6 +44,10 @@ fn main(rt: HostRuntime) -> ExitCode {
             &rt,
             refutes::run(&rt, shape.as_str(), n.as_str(), times.as_str()),
         )),
+        [name, shape, n, times] if name.as_str() == "copies" => ExitCode::from(status(
+            &rt,
+            refutes::copies(&rt, shape.as_str(), n.as_str(), times.as_str()),
+        )),
         [name, what, times] if name.as_str() == "terms" => ExitCode::from(status(
             &rt,
             terms::run(&rt, what.as_str(), times.as_str()),

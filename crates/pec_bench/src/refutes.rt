@@ -1,9 +1,11 @@
 //! `pec_bench refutes SHAPE N TIMES`: builds a refutation of `L = R`, which is known, and so many times asks whether it is right.
 //! A `leaf` has N steps; `first` and `second` have N splits, each in the first or in the second branch of the one before.
-//! Prints how often the answer is yes.
+//! Prints how often the answer is yes. `pec_bench copies SHAPE N TIMES` builds the same, makes so many copies, drops each,
+//! and prints how many parts they had in all.
 
 use anyhow::{Context, Result, bail};
-use proof_steps::{By, Part, Refutation, Step, refutes};
+use proof_steps::refutes;
+use refutations::{By, Part, Refutation, Step};
 use rule_terms::{Atom, Conjunct, Literal, Obligation, StoreTerm};
 use sqlite_items::Items;
 use std::alloc::Global;
@@ -35,6 +37,29 @@ fn answers(ob: &Obligation, proof: &Refutation, times: u32) -> u32 {
         }
     }
     yes
+}
+
+/// Makes the copies, and prints the number of their parts.
+pub fn copies(rt: &(impl Print + AllocGlobal), shape: &str, n: &str, times: &str) -> Result<()> {
+    let n = n.parse::<u32>().context("how many")?;
+    let times = times.parse::<u32>().context("how many times")?;
+    let parts = copied(rt.alloc(), shape, n, times)?;
+    println!(rt; "{parts}")?;
+    Ok(())
+}
+
+fn copied(alloc: Global, shape: &str, n: u32, times: u32) -> Result<u64> {
+    let proof = refutation(alloc, shape, n)?;
+    copied_parts(alloc, &proof, times)
+}
+
+fn copied_parts(alloc: Global, proof: &Refutation, times: u32) -> Result<u64> {
+    let mut parts: u64 = 0;
+    for _ in 0..times {
+        let copy = proof.copy(alloc).ok().context("memory")?;
+        parts = parts.wrapping_add(copy.parts().len() as u64);
+    }
+    Ok(parts)
 }
 
 fn refutation(alloc: Global, shape: &str, n: u32) -> Result<Refutation> {

@@ -4,7 +4,7 @@ use Rattle.std.proofs.Common.{ap, drop, arith}
 use Rattle.std.proofs.lemmas.List.{drop_all}
 use Rattle.rule_terms.specs.Term.{StoreTerm, put, ValueTerm, get, ValueTerms, no_terms, term}
 use Rattle.term_meaning.specs.Indices.{count}
-use Rattle.proof_steps.specs.declared.refutation.Step.{Step}
+use Rattle.refutations.specs.declared.refutation.Step.{Step}
 use Rattle.law_clauses.specs.Arguments.{Argument, of_name, of_store, of_value, index_arguments, store_arguments, value_arguments}
 use Rattle.proof_steps.specs.Replaced.{left_by_pair, left_by_pairs, all_used, replaced}
 

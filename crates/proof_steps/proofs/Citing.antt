@@ -9,7 +9,7 @@ use Rattle.law_clauses.specs.Signed.{Signed, signed_of}
 use Rattle.law_clauses.proofs.Same.{signed_is}
 use Rattle.law_clauses.proofs.Each.{Each, IfThere, each_at}
 use Rattle.law_clauses.proofs.Meant.{IsTrueHere, Fails, true_negation}
-use Rattle.proof_steps.specs.declared.refutation.Step.{Step}
+use Rattle.refutations.specs.declared.refutation.Step.{Step}
 use Rattle.proof_steps.specs.Cited.{stated, fact, is_that, cited}
 use Rattle.proof_steps.specs.Steps.{without, all_negated}
 

@@ -11,11 +11,11 @@ use Rattle.rule_terms.specs.declared.obligation.Obligation.{Obligation}
 use Rattle.law_clauses.specs.Signed.{atom_same, signed_same, all_same}
 use Rattle.law_clauses.specs.WriteLaws.{unequal, read_back, law_1}
 use Rattle.law_clauses.specs.Laws.{is_clause}
-use Rattle.proof_steps.specs.declared.refutation.By.TheVariants.{Given, Known, Refl, Alike, Carry, Law, Sum}
-use Rattle.proof_steps.specs.declared.refutation.By.{By}
-use Rattle.proof_steps.specs.declared.refutation.Step.{Step}
-use Rattle.proof_steps.specs.declared.refutation.SumRow.TheVariants.{Of}
-use Rattle.proof_steps.specs.Refutation.{leaf}
+use Rattle.refutations.specs.declared.refutation.By.TheVariants.{Given, Known, Refl, Alike, Carry, Law, Sum}
+use Rattle.refutations.specs.declared.refutation.By.{By}
+use Rattle.refutations.specs.declared.refutation.Step.{Step}
+use Rattle.refutations.specs.declared.refutation.SumRow.TheVariants.{Of}
+use Rattle.refutations.specs.Refutation.{leaf}
 use Rattle.proof_steps.specs.Cited.{cited}
 use Rattle.law_clauses.specs.Arguments.{store_top}
 use Rattle.proof_steps.specs.Replaced.{left_by_pair, left_by_pairs, alike, carried}

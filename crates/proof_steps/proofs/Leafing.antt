@@ -4,7 +4,7 @@ use Rattle.std.proofs.Common.{sym, ap, ◌∙◌, drop, drop-cons, add-one, appe
 use Rattle.std.proofs.lemmas.List.{take_more}
 use Rattle.rule_terms.specs.declared.obligation.Obligation.{Obligation}
 use Rattle.law_clauses.specs.Signed.{Signed, signed_of}
-use Rattle.proof_steps.specs.declared.refutation.Step.{Step}
+use Rattle.refutations.specs.declared.refutation.Step.{Step}
 use Rattle.proof_steps.specs.Steps.{step_holds}
 use Rattle.proof_steps.specs.Refutes.{closes, leaf_closes}
 use Rattle.proof_steps.specs.Leaves.{steps_hold, last_closes}

@@ -9,7 +9,7 @@ use Rattle.rule_terms.specs.declared.obligation.Literal.{Literal}
 use Rattle.rule_terms.specs.declared.obligation.Obligation.{Obligation}
 use Rattle.law_clauses.specs.Signed.{Signed, signed_of, all_signed, signed_same, negated}
 use Rattle.law_clauses.specs.Laws.{is_clause}
-use Rattle.proof_steps.specs.declared.refutation.Step.{Step}
+use Rattle.refutations.specs.declared.refutation.Step.{Step}
 use Rattle.proof_steps.specs.Cited.{fact, is_that, cited}
 use Rattle.proof_steps.specs.Steps.{without, all_negated, by_law}
 

@@ -6,7 +6,6 @@ pub mod Leafing
 pub mod LeftOut
 pub mod Lists
 pub mod Moving
-pub mod Placing
 pub mod Refuting
 pub mod Replacing
 pub mod Soundness

@@ -6,7 +6,7 @@ use Rattle.rule_terms.specs.declared.obligation.Obligation.{Obligation}
 use Rattle.rule_terms.specs.declared.obligation.Literal.{Literal}
 use Rattle.law_clauses.specs.Signed.{Signed, all_signed, signed_of, signed_same, negated}
 use Rattle.law_clauses.proofs.Same.{or_more}
-use Rattle.proof_steps.specs.declared.refutation.Step.{Step}
+use Rattle.refutations.specs.declared.refutation.Step.{Step}
 use Rattle.proof_steps.specs.Cited.{fact, is_that, cited}
 use Rattle.proof_steps.specs.Steps.{is_given, all_negated}
 use Rattle.proof_steps.specs.Refutes.{denied, given_first, given_at}

@@ -12,11 +12,11 @@ use Rattle.rule_terms.specs.declared.obligation.Obligation.{Obligation}
 use Rattle.law_clauses.specs.Arguments.{Argument, identical, equality}
 use Rattle.law_clauses.specs.Signed.{Signed, plus, minus, signed_of, all_signed}
 use Rattle.law_clauses.specs.Laws.{is_clause}
-use Rattle.proof_steps.specs.declared.refutation.By.{By}
-use Rattle.proof_steps.specs.declared.refutation.By.TheVariants.{Given, Known, Refl, Flip, Chain, Alike, Carry, Law, Meet, Sum}
-use Rattle.proof_steps.specs.declared.refutation.Step.{Step}
-use Rattle.proof_steps.specs.declared.refutation.SumRow.{SumRow}
-use Rattle.proof_steps.specs.declared.refutation.SumRow.TheVariants.{Of, Back, Num, Off, OffBack}
+use Rattle.refutations.specs.declared.refutation.By.{By}
+use Rattle.refutations.specs.declared.refutation.By.TheVariants.{Given, Known, Refl, Flip, Chain, Alike, Carry, Law, Meet, Sum}
+use Rattle.refutations.specs.declared.refutation.Step.{Step}
+use Rattle.refutations.specs.declared.refutation.SumRow.{SumRow}
+use Rattle.refutations.specs.declared.refutation.SumRow.TheVariants.{Of, Back, Num, Off, OffBack}
 use Rattle.proof_steps.specs.Cited.{fact, is_that, cited}
 use Rattle.proof_steps.specs.Steps.{by_known, flipped, chained, met, by_law, all_negated, without, has_rows, summed, follows, is_shallow, row_is_shallow, reason_is_shallow, step_holds}
 use Rattle.proof_steps.specs.Sums.{Bound, bound_of, bound_back, row_bound, goes_on, goes_on_by, adds_up}

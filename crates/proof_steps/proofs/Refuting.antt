@@ -4,8 +4,8 @@ use Rattle.std.specs.Prelude.{◌≡◌, ◌<◌, ℕ, suc, ◌+◌, Bool, true,
 use Rattle.std.proofs.Common.{sym, ◌∙◌, ap, drop, drop-cons, add-one, arith, length-append}
 use Rattle.rule_terms.specs.declared.obligation.Obligation.{Obligation}
 use Rattle.law_clauses.specs.Signed.{Signed, signed_of, negated}
-use Rattle.proof_steps.specs.declared.refutation.Part.{Part}
-use Rattle.proof_steps.specs.Refutation.{Refutation, split, leaf, parts, distances}
+use Rattle.refutations.specs.declared.refutation.Part.{Part}
+use Rattle.refutations.specs.Refutation.{Refutation, split, leaf, parts, distances}
 use Rattle.proof_steps.specs.Steps.{is_shallow}
 use Rattle.proof_steps.specs.Refutes.{given_at, leaf_closes, refutes_under}
 use Rattle.proof_steps.specs.Ways.{ways, part_right, parts_right}

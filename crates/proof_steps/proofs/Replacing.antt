@@ -18,7 +18,7 @@ use Rattle.law_clauses.specs.Signed.{Signed, plus, minus}
 use Rattle.law_clauses.proofs.Same.{number_is, integer_is, store_is, value_is}
 use Rattle.law_clauses.proofs.Each.{Each, IfThere}
 use Rattle.law_clauses.proofs.Meant.{IsTrueHere}
-use Rattle.proof_steps.specs.declared.refutation.Step.{Step}
+use Rattle.refutations.specs.declared.refutation.Step.{Step}
 use Rattle.proof_steps.specs.Cited.{fact}
 use Rattle.law_clauses.specs.Arguments.{Argument, of_name, of_store, of_value, index_arguments, store_arguments, value_arguments, store_top, value_top, identical, equality}
 use Rattle.proof_steps.specs.Replaced.{says, left_by_equality, left_by_pair, left_by_pairs, all_used, replaced, alike, carried_atom, carried}

@@ -16,8 +16,8 @@ use Rattle.law_clauses.specs.Signed.{Signed, signed_of, all_signed, negated}
 use Rattle.law_clauses.proofs.Same.{or_cases, not_false, signed_is}
 use Rattle.law_clauses.proofs.Each.{Each, each_joined, each_of_all, any_found}
 use Rattle.law_clauses.proofs.Meant.{truth, IsTrueHere, Covers, signed_truth, signed_covered, all_covered, all_true, negation_true, true_negation, negation_covered}
-use Rattle.proof_steps.specs.declared.refutation.Step.{Step}
-use Rattle.proof_steps.specs.Refutation.{Refutation, split, leaf}
+use Rattle.refutations.specs.declared.refutation.Step.{Step}
+use Rattle.refutations.specs.Refutation.{Refutation, split, leaf}
 use Rattle.proof_steps.specs.Steps.{is_shallow, step_holds}
 use Rattle.proof_steps.specs.Refutes.{denied, given_first, given_at, is_absurd, denies, closes, leaf_closes, refutes_under, refutes}
 use Rattle.proof_steps.proofs.Citing.{StepIsTrue}

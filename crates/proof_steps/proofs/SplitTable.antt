@@ -8,9 +8,9 @@ use Rattle.rule_terms.specs.declared.obligation.Literal.{Literal}
 use Rattle.rule_terms.specs.declared.obligation.Obligation.{Obligation}
 use Rattle.law_clauses.specs.Signed.{atom_same, signed_same}
 use Rattle.law_clauses.proofs.TableTerms.{variable, no_goal}
-use Rattle.proof_steps.specs.declared.refutation.By.TheVariants.{Given, Known}
-use Rattle.proof_steps.specs.declared.refutation.Step.{Step}
-use Rattle.proof_steps.specs.Refutation.{split, leaf}
+use Rattle.refutations.specs.declared.refutation.By.TheVariants.{Given, Known}
+use Rattle.refutations.specs.declared.refutation.Step.{Step}
+use Rattle.refutations.specs.Refutation.{split, leaf}
 use Rattle.proof_steps.specs.Cited.{cited}
 use Rattle.proof_steps.specs.Steps.{by_known, step_holds}
 use Rattle.proof_steps.specs.Refutes.{is_absurd, leaf_closes, refutes_under, refutes}

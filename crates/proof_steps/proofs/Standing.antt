@@ -17,9 +17,9 @@ use Rattle.term_meaning.proofs.InUse.{by_truth}
 use Rattle.law_clauses.specs.Signed.{Signed, plus, minus, signed_of}
 use Rattle.law_clauses.proofs.Each.{Each, each_joined}
 use Rattle.law_clauses.proofs.Meant.{truth, IsTrueHere, Covers, signed_covered, all_covered}
-use Rattle.proof_steps.specs.declared.refutation.By.{By}
-use Rattle.proof_steps.specs.declared.refutation.By.TheVariants.{Law}
-use Rattle.proof_steps.specs.declared.refutation.Step.{Step}
+use Rattle.refutations.specs.declared.refutation.By.{By}
+use Rattle.refutations.specs.declared.refutation.By.TheVariants.{Law}
+use Rattle.refutations.specs.declared.refutation.Step.{Step}
 use Rattle.proof_steps.specs.Steps.{is_shallow, reason_is_shallow, step_holds}
 use Rattle.proof_steps.proofs.Citing.{StepIsTrue}
 use Rattle.proof_steps.proofs.Stepping.{ReasonCovered, reason_shows}

@@ -10,10 +10,10 @@ use Rattle.law_clauses.specs.Signed.{all_signed, atom_same, signed_same}
 use Rattle.law_clauses.specs.WriteLaws.{law_7, law_8}
 use Rattle.law_clauses.specs.Laws.{is_clause}
 use Rattle.law_clauses.proofs.TableTerms.{one_value, five, variable, set, no_goal, plain}
-use Rattle.proof_steps.specs.declared.refutation.By.TheVariants.{Given, Known, Refl, Flip, Chain, Alike, Carry, Law, Meet, Sum}
-use Rattle.proof_steps.specs.declared.refutation.Step.{Step}
-use Rattle.proof_steps.specs.declared.refutation.SumRow.{SumRow}
-use Rattle.proof_steps.specs.declared.refutation.SumRow.TheVariants.{Of, Back, Num, Off, OffBack}
+use Rattle.refutations.specs.declared.refutation.By.TheVariants.{Given, Known, Refl, Flip, Chain, Alike, Carry, Law, Meet, Sum}
+use Rattle.refutations.specs.declared.refutation.Step.{Step}
+use Rattle.refutations.specs.declared.refutation.SumRow.{SumRow}
+use Rattle.refutations.specs.declared.refutation.SumRow.TheVariants.{Of, Back, Num, Off, OffBack}
 use Rattle.proof_steps.specs.Cited.{cited}
 use Rattle.law_clauses.specs.Arguments.{store_top, value_top}
 use Rattle.proof_steps.specs.Replaced.{left_by_pair, left_by_pairs, alike, carried}

@@ -24,9 +24,9 @@ use Rattle.law_clauses.proofs.Same.{same_truth, number_is, store_is, value_is, s
 use Rattle.law_clauses.proofs.Each.{Each, IfThere, each_at, any_found}
 use Rattle.law_clauses.proofs.Meant.{IsTrueHere, Fails, Covers, signed_truth, true_all}
 use Rattle.law_clauses.proofs.Clauses.{clause_true}
-use Rattle.proof_steps.specs.declared.refutation.By.{By}
-use Rattle.proof_steps.specs.declared.refutation.By.TheVariants.{Given, Known, Refl, Flip, Chain, Alike, Carry, Law, Meet, Sum}
-use Rattle.proof_steps.specs.declared.refutation.Step.{Step}
+use Rattle.refutations.specs.declared.refutation.By.{By}
+use Rattle.refutations.specs.declared.refutation.By.TheVariants.{Given, Known, Refl, Flip, Chain, Alike, Carry, Law, Meet, Sum}
+use Rattle.refutations.specs.declared.refutation.Step.{Step}
 use Rattle.proof_steps.specs.Cited.{fact, is_that, cited}
 use Rattle.proof_steps.specs.Steps.{is_given, given_by, by_known, by_itself, is_flipped, flipped, is_chain, chained, without, all_negated, by_law, follows}
 use Rattle.proof_steps.proofs.Citing.{StepIsTrue, fact_true, cited_true, negations_fail, clause_fails}

@@ -4,8 +4,8 @@ use Rattle.std.proofs.Common.{ap, ◌∙◌, arith}
 use Rattle.std.specs.Ordering.{int_eq}
 use Rattle.rule_terms.specs.Term.{ValueTerm, num, get, ev, add, sub, mul}
 use Rattle.rule_terms.specs.Order.{value_cmp, value_same}
-use Rattle.proof_steps.specs.declared.refutation.Step.{Step}
-use Rattle.proof_steps.specs.declared.refutation.SumRow.{SumRow}
+use Rattle.refutations.specs.declared.refutation.Step.{Step}
+use Rattle.refutations.specs.declared.refutation.SumRow.{SumRow}
 use Rattle.proof_steps.specs.Sums.{Bound, row_bound, goes_on, goes_on_by, adds_up}
 use Rattle.proof_steps.specs.Rows.{gone_on, next_reached}
 use Rattle.proof_steps.specs.Steps.{has_rows}

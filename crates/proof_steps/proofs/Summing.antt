@@ -16,9 +16,9 @@ use Rattle.law_clauses.specs.Signed.{Signed, plus, minus}
 use Rattle.law_clauses.proofs.Same.{not_true, integer_is, value_is}
 use Rattle.law_clauses.proofs.Each.{Each, IfThere}
 use Rattle.law_clauses.proofs.Meant.{IsTrueHere}
-use Rattle.proof_steps.specs.declared.refutation.Step.{Step}
-use Rattle.proof_steps.specs.declared.refutation.SumRow.{SumRow}
-use Rattle.proof_steps.specs.declared.refutation.SumRow.TheVariants.{Of, Back, Num, Off, OffBack}
+use Rattle.refutations.specs.declared.refutation.Step.{Step}
+use Rattle.refutations.specs.declared.refutation.SumRow.{SumRow}
+use Rattle.refutations.specs.declared.refutation.SumRow.TheVariants.{Of, Back, Num, Off, OffBack}
 use Rattle.law_clauses.specs.Offsets.{offset}
 use Rattle.proof_steps.specs.Cited.{fact}
 use Rattle.proof_steps.specs.Sums.{Bound, bound_of, bound_back, over, under, row_bound, goes_on, goes_on_by, adds_up}

@@ -6,9 +6,9 @@ use Rattle.std.proofs.lemmas.List.{get_or_append_left, get_or-append-add, get_or
 use Rattle.std.proofs.lemmas.Bool.{cases_lt}
 use Rattle.rule_terms.specs.declared.obligation.Literal.{Literal}
 use Rattle.law_clauses.specs.Signed.{Signed, signed_of, negated, signed_same}
-use Rattle.proof_steps.specs.declared.refutation.Part.{Part}
-use Rattle.proof_steps.specs.declared.refutation.Part.TheVariants.{Split}
-use Rattle.proof_steps.specs.Refutation.{Refutation, split, leaf, parts, distances}
+use Rattle.refutations.specs.declared.refutation.Part.{Part}
+use Rattle.refutations.specs.declared.refutation.Part.TheVariants.{Split}
+use Rattle.refutations.specs.Refutation.{Refutation, split, leaf, parts, distances}
 use Rattle.proof_steps.specs.Ways.{ways, is_turned}
 use Rattle.proof_steps.proofs.Refuting.{as_many_distances, as_many_ways}
 

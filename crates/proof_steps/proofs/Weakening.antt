@@ -5,10 +5,10 @@ use Rattle.std.proofs.lemmas.Bool.{and_parts, and_from, or_cases, or_left, or_ri
 use Rattle.rule_terms.specs.declared.obligation.Literal.{Literal}
 use Rattle.rule_terms.specs.declared.obligation.Obligation.{Obligation}
 use Rattle.law_clauses.specs.Signed.{Signed, signed_of, negated, signed_same}
-use Rattle.proof_steps.specs.declared.refutation.By.{By}
-use Rattle.proof_steps.specs.declared.refutation.By.TheVariants.{Given}
-use Rattle.proof_steps.specs.declared.refutation.Step.{Step}
-use Rattle.proof_steps.specs.Refutation.{Refutation, split, leaf}
+use Rattle.refutations.specs.declared.refutation.By.{By}
+use Rattle.refutations.specs.declared.refutation.By.TheVariants.{Given}
+use Rattle.refutations.specs.declared.refutation.Step.{Step}
+use Rattle.refutations.specs.Refutation.{Refutation, split, leaf}
 use Rattle.proof_steps.specs.Steps.{is_given, follows, is_shallow, reason_is_shallow, step_holds}
 use Rattle.proof_steps.specs.Refutes.{given_first, given_at, leaf_closes, refutes_under}
 use Rattle.proof_steps.specs.RefuteLaws.{Included}

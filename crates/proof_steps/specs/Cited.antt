@@ -1,7 +1,7 @@
 -- What steps that stand before say, and what is cited of them.
 use Rattle.std.specs.Prelude.{ℕ, Bool, true, false, ◌&&◌, List, [], ◌∷◌, Option, Some, None, slice_get}
 use Rattle.law_clauses.specs.Signed.{Signed, signed_of, signed_same}
-use Rattle.proof_steps.specs.declared.refutation.Step.{Step}
+use Rattle.refutations.specs.declared.refutation.Step.{Step}
 
 abbrev pub stated : Option Step → Option Signed
 stated None = None

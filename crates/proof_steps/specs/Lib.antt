@@ -1,9 +1,6 @@
 pub mod Cited
 pub mod Leaves
 pub mod Moved
-pub mod Placed
-pub mod Refutation
-pub mod RefutationCode
 pub mod RefuteLaws
 pub mod Refutes
 pub mod Replaced

@@ -9,8 +9,8 @@ use Rattle.rule_terms.specs.declared.obligation.Obligation.{Obligation}
 use Rattle.term_meaning.specs.Table.{Entry, Faithful}
 use Rattle.term_meaning.specs.Meaning.{literal_truth, conjunct_truth, fits_kinds, CoversObligation, Reached, ObligationHolds}
 use Rattle.law_clauses.specs.Signed.{Signed, signed_of, negated}
-use Rattle.proof_steps.specs.declared.refutation.Step.{Step}
-use Rattle.proof_steps.specs.Refutation.{Refutation, split}
+use Rattle.refutations.specs.declared.refutation.Step.{Step}
+use Rattle.refutations.specs.Refutation.{Refutation, split}
 use Rattle.proof_steps.specs.Moved.{moved}
 use Rattle.proof_steps.specs.Steps.{is_given, is_shallow, step_holds}
 use Rattle.proof_steps.specs.Refutes.{refutes_under, Refutes}

@@ -8,8 +8,8 @@ use Rattle.rule_terms.specs.declared.obligation.Atom.TheVariants.{AtMost}
 use Rattle.rule_terms.specs.declared.obligation.Literal.{Literal}
 use Rattle.rule_terms.specs.declared.obligation.Obligation.{Obligation}
 use Rattle.law_clauses.specs.Signed.{Signed, plus, signed_of, all_signed, negated, signed_same}
-use Rattle.proof_steps.specs.declared.refutation.Step.{Step}
-use Rattle.proof_steps.specs.Refutation.{Refutation, split, leaf}
+use Rattle.refutations.specs.declared.refutation.Step.{Step}
+use Rattle.refutations.specs.Refutation.{Refutation, split, leaf}
 use Rattle.proof_steps.specs.Steps.{is_shallow, step_holds}
 
 abbrev pub denied : Option Literal → List Signed

@@ -5,7 +5,7 @@ use Rattle.rule_terms.specs.declared.obligation.Atom.{Atom}
 use Rattle.rule_terms.specs.declared.obligation.Atom.TheVariants.{SameStore, SameValue, AtMost, Ends, Holds}
 use Rattle.law_clauses.specs.Signed.{Signed, plus, minus}
 use Rattle.law_clauses.specs.Arguments.{Argument, of_store, of_value, store_arguments, value_arguments, store_top, value_top, identical, equality}
-use Rattle.proof_steps.specs.declared.refutation.Step.{Step}
+use Rattle.refutations.specs.declared.refutation.Step.{Step}
 use Rattle.proof_steps.specs.Cited.{fact, is_that}
 
 abbrev pub says : List Step → ℕ → Option Atom → Bool

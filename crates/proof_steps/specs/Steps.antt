@@ -12,11 +12,11 @@ use Rattle.rule_terms.specs.declared.obligation.Conjunct.{Conjunct}
 use Rattle.rule_terms.specs.declared.obligation.Obligation.{Obligation}
 use Rattle.law_clauses.specs.Signed.{Signed, plus, minus, signed_of, all_signed, negated, signed_same}
 use Rattle.law_clauses.specs.Laws.{is_clause}
-use Rattle.proof_steps.specs.declared.refutation.By.{By}
-use Rattle.proof_steps.specs.declared.refutation.By.TheVariants.{Given, Known, Refl, Flip, Chain, Alike, Carry, Law, Meet, Sum}
-use Rattle.proof_steps.specs.declared.refutation.Step.{Step}
-use Rattle.proof_steps.specs.declared.refutation.SumRow.{SumRow}
-use Rattle.proof_steps.specs.declared.refutation.SumRow.TheVariants.{Of, Back, Num, Off, OffBack}
+use Rattle.refutations.specs.declared.refutation.By.{By}
+use Rattle.refutations.specs.declared.refutation.By.TheVariants.{Given, Known, Refl, Flip, Chain, Alike, Carry, Law, Meet, Sum}
+use Rattle.refutations.specs.declared.refutation.Step.{Step}
+use Rattle.refutations.specs.declared.refutation.SumRow.{SumRow}
+use Rattle.refutations.specs.declared.refutation.SumRow.TheVariants.{Of, Back, Num, Off, OffBack}
 use Rattle.proof_steps.specs.Cited.{fact, is_that, cited}
 use Rattle.proof_steps.specs.Replaced.{alike, carried}
 use Rattle.proof_steps.specs.Sums.{adds_up}

@@ -4,9 +4,9 @@ use Rattle.rule_terms.specs.Term.{ValueTerm, num}
 use Rattle.rule_terms.specs.Order.{value_same}
 use Rattle.rule_terms.specs.declared.obligation.Atom.TheVariants.{SameValue, AtMost}
 use Rattle.law_clauses.specs.Signed.{Signed, plus, minus}
-use Rattle.proof_steps.specs.declared.refutation.Step.{Step}
-use Rattle.proof_steps.specs.declared.refutation.SumRow.{SumRow}
-use Rattle.proof_steps.specs.declared.refutation.SumRow.TheVariants.{Of, Back, Num, Off, OffBack}
+use Rattle.refutations.specs.declared.refutation.Step.{Step}
+use Rattle.refutations.specs.declared.refutation.SumRow.{SumRow}
+use Rattle.refutations.specs.declared.refutation.SumRow.TheVariants.{Of, Back, Num, Off, OffBack}
 use Rattle.law_clauses.specs.Offsets.{offset}
 use Rattle.proof_steps.specs.Cited.{fact}
 

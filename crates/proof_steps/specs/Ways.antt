@@ -3,10 +3,10 @@ use Rattle.std.specs.Prelude.{ℕ, Bool, true, false, cond, ◌==◌, ◌&&◌, 
 use Rattle.rule_terms.specs.declared.obligation.Literal.{Literal}
 use Rattle.rule_terms.specs.declared.obligation.Obligation.{Obligation}
 use Rattle.law_clauses.specs.Signed.{Signed, signed_of, negated, signed_same}
-use Rattle.proof_steps.specs.declared.refutation.Part.{Part}
-use Rattle.proof_steps.specs.declared.refutation.Part.TheVariants.{Split, Leaf}
+use Rattle.refutations.specs.declared.refutation.Part.{Part}
+use Rattle.refutations.specs.declared.refutation.Part.TheVariants.{Split, Leaf}
 use Rattle.proof_steps.specs.declared.assumed.Assumed.{Assumed}
-use Rattle.proof_steps.specs.Refutation.{Refutation, split, leaf}
+use Rattle.refutations.specs.Refutation.{Refutation, split, leaf}
 use Rattle.proof_steps.specs.Steps.{is_shallow}
 use Rattle.proof_steps.specs.Refutes.{given_at, leaf_closes}
 use denote.Bor.{Bor}

@@ -9,9 +9,9 @@ ghost use Rattle.proof_steps.specs.Cited.{fact};
 ghost use Rattle.law_clauses.specs.Arguments.{of_store, of_value, store_arguments, value_arguments, store_top, value_top};
 ghost use Rattle.proof_steps.specs.Replaced.{replaced, alike, carried_atom, carried};
 
-use crate::refutation::Step;
 use crate::replaced::{is_all_used, place_pairs, store_pair, value_pair};
 use law_clauses::count;
+use refutations::Step;
 use rule_terms::{Atom, Literal, Place, StoreNode, StoreTerm, ValueNode, ValueTerm};
 
 // One store by another.

@@ -6,8 +6,8 @@ ghost use Rattle.std.specs.List.{list_any};
 ghost use Rattle.law_clauses.specs.Signed.{signed_of, signed_same};
 ghost use Rattle.proof_steps.specs.Ways.{all_listed, assumed_list, ways, is_turned};
 
-use crate::refutation::{Part, Refutation};
 use law_clauses::{is_negation, same_signed};
+use refutations::{Part, Refutation};
 use rule_terms::Literal;
 
 /// A part of a refutation, by its number, and what is assumed at the beginning.

@@ -8,8 +8,8 @@ ghost use Rattle.proof_steps.specs.Cited.{fact, is_that, cited};
 ghost use Rattle.proof_steps.specs.Steps.{given_by, by_known, all_negated};
 
 use crate::cites::says;
-use crate::refutation::Step;
 use law_clauses::{is_negation, is_num, same_signed};
+use refutations::Step;
 use rule_terms::{Atom, Conjunct, Literal};
 
 // Whether the steps give the literals.

@@ -7,8 +7,8 @@ ghost use Rattle.rule_terms.specs.declared.obligation.Atom.TheVariants.{SameName
 ghost use Rattle.law_clauses.specs.Signed.{plus, signed_of, signed_same};
 ghost use Rattle.proof_steps.specs.Cited.{fact, is_that};
 
-use crate::refutation::Step;
 use law_clauses::same_signed;
+use refutations::Step;
 use rule_terms::{Atom, Literal, StoreTerm, ValueTerm};
 
 // The literal of the step of this number.

@@ -7,8 +7,8 @@ ghost use Rattle.law_clauses.specs.Signed.{signed_of};
 ghost use Rattle.proof_steps.specs.Steps.{is_shallow};
 ghost use Rattle.proof_steps.specs.Refutes.{is_absurd, denies, closes};
 
-use crate::refutation::Step;
 use law_clauses::is_negation;
+use refutations::Step;
 use rule_terms::{Atom, Literal};
 
 // A value that is at most itself less something.

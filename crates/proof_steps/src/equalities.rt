@@ -6,7 +6,7 @@ ghost use Rattle.law_clauses.specs.Signed.{signed_of};
 ghost use Rattle.proof_steps.specs.Cited.{fact};
 ghost use Rattle.proof_steps.specs.Steps.{by_itself, is_flipped, flipped, is_chain, chained, met};
 
-use crate::refutation::Step;
+use refutations::Step;
 use rule_terms::{Atom, Literal};
 
 #[tactic(auto, unfolding(crate::specs::Steps::by_itself))]

@@ -7,8 +7,8 @@ ghost use Rattle.proof_steps.specs.Cited.{cited};
 ghost use Rattle.proof_steps.specs.Steps.{without, all_negated, by_law};
 
 use crate::cited_lists::are_denied;
-use crate::refutation::Step;
 use law_clauses::{is_clause, same_signed};
+use refutations::Step;
 use rule_terms::{Literal, Obligation};
 
 // Whether the steps give the negations of the literals but that at `p`.

@@ -8,8 +8,8 @@ ghost use Rattle.proof_steps.specs.Ways.{assumed_list};
 
 use crate::assumed::Assumed;
 use crate::closing::closes;
-use crate::refutation::Step;
 use crate::steps::step_holds;
+use refutations::Step;
 use rule_terms::Obligation;
 
 // Whether each step follows from those before.

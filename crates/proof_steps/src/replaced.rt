@@ -10,7 +10,7 @@ ghost use Rattle.law_clauses.specs.Arguments.{of_name, of_store, of_value, index
 ghost use Rattle.proof_steps.specs.Replaced.{left_by_pair, left_by_pairs, all_used};
 
 use crate::cites::{says_names, says_stores, says_values};
-use crate::refutation::Step;
+use refutations::Step;
 use rule_terms::{Place, StoreTerm, ValueTerm};
 
 // The cited steps from a place on that say that names are equal.

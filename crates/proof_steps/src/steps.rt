@@ -16,8 +16,8 @@ use crate::closing::{are_shallow, is_shallow};
 use crate::equalities::{is_by_itself, is_chain, is_flip, is_meeting};
 use crate::given::is_given_first;
 use crate::laws_cited::follows_by_law;
-use crate::refutation::{By, Step, SumRow};
 use crate::sums::is_summed;
+use refutations::{By, Step, SumRow};
 use rule_terms::{Literal, Obligation, ValueTerm};
 
 // One of the literals that are assumed on the way or given first; the latter are few, so they are looked at before.

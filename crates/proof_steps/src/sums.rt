@@ -12,8 +12,8 @@ ghost use Rattle.proof_steps.specs.Sums.{bound, bound_of, bound_back, over, unde
 ghost use Rattle.proof_steps.specs.Steps.{has_rows, summed};
 ghost use Rattle.proof_steps.specs.Rows.{side_of, bound_by, reached, next_reached};
 
-use crate::refutation::{Step, SumRow};
 use law_clauses::{is_num, split_offset};
+use refutations::{Step, SumRow};
 use rule_terms::{Atom, Literal, ValueNode, ValueTerm};
 
 /// The greatest magnitude of a row's number and of a sum.

@@ -10,7 +10,7 @@ ghost use Rattle.proof_steps.specs.Ways.{all_listed, assumed_list, part_right};
 use crate::assumed::Assumed;
 use crate::closing::is_shallow;
 use crate::leaf::leaf_closes;
-use crate::refutation::{Part, Refutation};
+use refutations::{Part, Refutation};
 use rule_terms::{Literal, Obligation};
 
 /// Whether the refutation shows that the obligation holds. It takes no memory, and a stack that does not grow with it.

@@ -2,7 +2,7 @@
 use Rattle.std.proofs.Common.{◌≡◌, ◌<◌, [], length, get_or}
 use Rattle.std.specs.List.{list_any}
 use Rattle.law_clauses.specs.Signed.{signed_of, signed_same}
-use Rattle.proof_steps.specs.Refutation.{parts}
+use Rattle.refutations.specs.Refutation.{parts}
 use Rattle.proof_steps.specs.Ways.{all_listed, ways}
 use Rattle.proof_steps.proofs.assumed.is_on_way.Given as goal
 

@@ -1,5 +1,5 @@
 use Rattle.std.proofs.Common.{◌<◌, ◌&&◌, ◌+◌, length, drop, sym, ◌∙◌, arith}
-use Rattle.proof_steps.specs.Refutation.{parts}
+use Rattle.refutations.specs.Refutation.{parts}
 use Rattle.proof_steps.specs.Ways.{all_listed, ways, parts_right}
 use Rattle.proof_steps.proofs.Refuting.{walk_step}
 use Rattle.proof_steps.proofs.walk.refutes_under.Goals as goal

@@ -1,6 +1,6 @@
 -- The parts that are left are right exactly where the refutation is.
 use Rattle.std.proofs.Common.{◌≡◌, drop}
-use Rattle.proof_steps.specs.Refutation.{parts}
+use Rattle.refutations.specs.Refutation.{parts}
 use Rattle.proof_steps.specs.Refutes.{refutes_under}
 use Rattle.proof_steps.specs.Ways.{all_listed, ways, parts_right}
 use Rattle.proof_steps.proofs.walk.refutes_under.Given as goal

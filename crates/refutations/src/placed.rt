@@ -2,7 +2,7 @@
 //! `specs/Placed.antt` says which splits wait for their second branch; each part costs a push and at most one pop.
 
 ghost use Rattle.std.specs.Prelude.{◌≡◌, ◌+◌, ◌<◌, ◌^◌, [], reverse, Some, IfOk};
-ghost use Rattle.proof_steps.specs.Placed.{after_part, with_waiting, placed};
+ghost use Rattle.refutations.specs.Placed.{after_part, with_waiting, placed};
 
 use crate::refutation::Part;
 use sqlite_items::Items;

@@ -1,5 +1,5 @@
 use Rattle.std.proofs.Common.{◌≡◌, take}
-use Rattle.proof_steps.proofs.copy.copy_parts.Given as goal
+use Rattle.refutations.proofs.copy.copy_parts.Given as goal
 
 abbrev pub invariant-loop-part : goal.invariant-loop-part
 invariant-loop-part l = l.all ≡ take l.part-index l.items

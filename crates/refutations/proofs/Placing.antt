@@ -6,12 +6,12 @@ use Rattle.std.proofs.Common.{sym, ◌∙◌, ap, arith, append_assoc, append-ni
 use Rattle.std.proofs.lemmas.Option.{none-some}
 use Rattle.std.proofs.lemmas.List.{reverse-append, drop_all}
 use Rattle.rule_terms.specs.declared.obligation.Literal.{Literal}
-use Rattle.proof_steps.specs.declared.refutation.Part.{Part}
-use Rattle.proof_steps.specs.declared.refutation.Part.TheVariants.{Split, Leaf}
-use Rattle.proof_steps.specs.declared.refutation.Step.{Step}
-use Rattle.proof_steps.specs.Refutation.{Refutation, split, leaf, parts, distances, first_of, tree_of, IsKept}
-use Rattle.proof_steps.specs.RefutationCode.{tree_of_parts}
-use Rattle.proof_steps.specs.Placed.{after_leaf, after_part, with_waiting, in_front, placed}
+use Rattle.refutations.specs.declared.refutation.Part.{Part}
+use Rattle.refutations.specs.declared.refutation.Part.TheVariants.{Split, Leaf}
+use Rattle.refutations.specs.declared.refutation.Step.{Step}
+use Rattle.refutations.specs.Refutation.{Refutation, split, leaf, parts, distances, first_of, tree_of, IsKept}
+use Rattle.refutations.specs.RefutationCode.{tree_of_parts}
+use Rattle.refutations.specs.Placed.{after_leaf, after_part, with_waiting, in_front, placed}
 
 abbrev pub behind : List ℕ → Option (List ℕ) → Option (List ℕ)
 behind front o = option_map (λ back. front ++ back) o

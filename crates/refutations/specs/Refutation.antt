@@ -1,10 +1,10 @@
 -- Refutations as trees, and their parts in the order of the text: a split's literal, its first branch, its second one.
--- What makes one of them right is said in `Refutes`.
+-- What makes one of them right is said in `proof_steps`.
 use Rattle.std.specs.Prelude.{◌≡◌, ℕ, suc, List, [], ◌∷◌, ◌++◌, length, Option, Some, None}
 use Rattle.rule_terms.specs.declared.obligation.Literal.{Literal}
-use Rattle.proof_steps.specs.declared.refutation.Step.{Step}
-use Rattle.proof_steps.specs.declared.refutation.Part.{Part}
-use Rattle.proof_steps.specs.declared.refutation.Part.TheVariants.{Split, Leaf}
+use Rattle.refutations.specs.declared.refutation.Step.{Step}
+use Rattle.refutations.specs.declared.refutation.Part.{Part}
+use Rattle.refutations.specs.declared.refutation.Part.TheVariants.{Split, Leaf}
 
 pub data Refutation : Type 0 where
   split : Literal → Refutation → Refutation → Refutation

@@ -1,9 +1,10 @@
-//! Refutations: proofs that an obligation holds, from its negated goal to a contradiction.
-//! A contract sees the tree of `specs/Refutation.antt`; it is kept as the list of its parts in the order of the text, so that
-//! reading, copying and dropping are loops. What makes one of them right is said in `specs/Refutes.antt`.
+//! Refutations: proofs that an obligation holds, from its negated goal to a contradiction. A contract sees the tree
+//! of `specs/Refutation.antt`; it is kept as the list of its parts in the order of the text, so that reading, copying
+//! and dropping are loops. What makes one of them right is said in `proof_steps`.
 
-ghost use Rattle.std.specs.Prelude.{◌≡◌, IfOk};
-ghost use Rattle.proof_steps.specs.Refutation.{leaf, parts, distances, IsRead};
+ghost use Rattle.std.specs.Prelude.{◌≡◌, suc, ◌++◌, ◌∷◌, length, drop, IfOk};
+ghost use Rattle.refutations.specs.declared.refutation.Part.TheVariants.{Split};
+ghost use Rattle.refutations.specs.Refutation.{split, leaf, parts, distances, IsRead};
 
 use crate::copy::copy_parts;
 use crate::placed::distances_of;
@@ -51,7 +52,8 @@ pub enum By {
     Flip(u32),
     /// It is an equality by two equalities.
     Chain(u32, u32),
-    /// It is an equality of two terms with the same top, whose arguments are identical or equal by the steps in order.
+    /// It is an equality of two terms with the same top, whose arguments are identical or equal by the steps in
+    /// order.
     Alike(Items<u32>),
     /// It is the literal of the first step with arguments replaced by equal ones in the same way.
     Carry(u32, Items<u32>),
@@ -82,10 +84,10 @@ pub enum SumRow {
 impl Model for Refutation {
     ghost use Rattle.std.specs.Prelude.{List};
     ghost use Rattle.std.specs.Coded.{code_by, coded_list};
-    ghost use Rattle.proof_steps.specs.declared.refutation.Part.{Part};
-    ghost use Rattle.proof_steps.specs.contracts.refutation.Part.{the_row};
-    ghost use Rattle.proof_steps.specs.Refutation.{Refutation, parts, tree_of, IsKept};
-    ghost use Rattle.proof_steps.specs.RefutationCode.{tree_of_parts};
+    ghost use Rattle.refutations.specs.declared.refutation.Part.{Part};
+    ghost use Rattle.refutations.specs.contracts.refutation.Part.{the_row};
+    ghost use Rattle.refutations.specs.Refutation.{Refutation, parts, tree_of, IsKept};
+    ghost use Rattle.refutations.specs.RefutationCode.{tree_of_parts};
 
     ghost Value = { Refutation };
 
@@ -94,6 +96,56 @@ impl Model for Refutation {
     ghost view = { λ r. tree_of r.all };
 
     ghost invariant = { λ r. IsKept r.all r.back };
+}
+
+// Adds the distances at the parts of a branch that begins so far behind its split.
+fn push_branch(
+    alloc: Global,
+    back: &mut Items<usize>,
+    far: usize,
+    branch: &[usize],
+) -> Result<(), NoMemory>
+    ensures { IfOk result (λ _. back.new ≡ back.old ++ (far ∷ drop 1 branch.now)) }
+{
+    back.push(far)?;
+    if let Some((_, rest)) = branch.split_first() {
+        back.append(Items::from_slice(alloc, rest)?)?;
+    }
+    Ok(())
+}
+
+// The distances at the parts of a split into these branches.
+#[tactic(auto, using(crate::proofs::Closing::both_branches))]
+fn split_distances(
+    alloc: Global,
+    first: &Refutation,
+    second: &Refutation,
+) -> Result<Items<usize>, NoMemory>
+    ensures { IfOk result (λ back. back ≡ 0 ∷ (distances 1 first.now ++ distances (suc (length (parts first.now))) second.now)) }
+{
+    let mut back = Items::new(alloc);
+    back.push(0)?;
+    push_branch(alloc, &mut back, 1, first.distances())?;
+    let far = back.len();
+    push_branch(alloc, &mut back, far, second.distances())?;
+    Ok(back)
+}
+
+// The parts of a split into branches with these parts.
+#[tactic(auto, using(std::proofs::Common::append_assoc))]
+fn split_parts(
+    alloc: Global,
+    literal: Literal,
+    first: Items<Part>,
+    second: Items<Part>,
+) -> Result<Items<Part>, NoMemory>
+    ensures { IfOk result (λ all. all ≡ Split literal ∷ (first ++ second)) }
+{
+    let mut all = Items::new(alloc);
+    all.push(Part::Split(literal))?;
+    all.append(first)?;
+    all.append(second)?;
+    Ok(all)
 }
 
 impl Refutation {
@@ -105,6 +157,22 @@ impl Refutation {
         all.push(Part::Leaf(steps))?;
         let mut back = Items::new(alloc);
         back.push(0)?;
+        Ok(Refutation { all, back })
+    }
+
+    /// The split into these two branches: the literal is assumed in the first, its negation in the second. It takes
+    /// as long as the branches are.
+    #[tactic(auto, using(crate::proofs::Closing::closed_is, crate::proofs::Closing::closed_kept))]
+    pub fn split(
+        alloc: Global,
+        literal: Literal,
+        first: Refutation,
+        second: Refutation,
+    ) -> Result<Refutation, NoMemory>
+        ensures { IfOk result (λ r. r ≡ split literal first second) }
+    {
+        let back = split_distances(alloc, &first, &second)?;
+        let all = split_parts(alloc, literal, first.into_parts(), second.into_parts())?;
         Ok(Refutation { all, back })
     }
 
@@ -135,7 +203,14 @@ impl Refutation {
         self.all.as_slice()
     }
 
-    // How far in front of each part the split stands whose branch begins there.
+    /// Its parts, taken out of it.
+    pub fn into_parts(self) -> Items<Part>
+        ensures { result ≡ parts self }
+    {
+        self.all
+    }
+
+    /// How far in front of each part the split stands whose branch begins there; 0 at the first.
     pub fn distances(&self) -> &[usize]
         ensures { result.now ≡ distances 0 self.now }
     {

@@ -1,8 +1,8 @@
 -- A refutation is read back from its parts, so different ones have different parts.
 use Rattle.std.specs.Prelude.{◌≡◌, List, [], ◌∷◌, ◌++◌, refl}
 use Rattle.std.proofs.Common.{sym, ◌∙◌, ap, append_assoc, append-nil}
-use Rattle.proof_steps.specs.declared.refutation.Part.{Part}
-use Rattle.proof_steps.specs.Refutation.{Refutation, split, leaf, parts, joined, trees, first_of, tree_of}
+use Rattle.refutations.specs.declared.refutation.Part.{Part}
+use Rattle.refutations.specs.Refutation.{Refutation, split, leaf, parts, joined, trees, first_of, tree_of}
 
 pub trees_parts : (r : Refutation) (more : List Part) → trees (parts r ++ more) ≡ r ∷ trees more
 trees_parts (leaf steps) more = refl

@@ -2,8 +2,8 @@
 -- which splits wait for their second branch, the latest first. Nothing is wanted where the refutation is whole.
 use Rattle.std.specs.Prelude.{ℕ, suc, ◌-◌, List, [], ◌∷◌, Option, Some, None}
 use Rattle.std.specs.Option.{option_map}
-use Rattle.proof_steps.specs.declared.refutation.Part.{Part}
-use Rattle.proof_steps.specs.declared.refutation.Part.TheVariants.{Split, Leaf}
+use Rattle.refutations.specs.declared.refutation.Part.{Part}
+use Rattle.refutations.specs.declared.refutation.Part.TheVariants.{Split, Leaf}
 
 -- behind a leaf the next part begins the second branch of the latest split that waits for one
 abbrev pub after_leaf : ℕ → List ℕ → Option (ℕ × List ℕ)

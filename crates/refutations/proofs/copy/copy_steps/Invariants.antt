@@ -1,5 +1,5 @@
 use Rattle.std.proofs.Common.{◌≡◌, take}
-use Rattle.proof_steps.proofs.copy.copy_steps.Given as goal
+use Rattle.refutations.proofs.copy.copy_steps.Given as goal
 
 abbrev pub invariant-loop-step : goal.invariant-loop-step
 invariant-loop-step l = l.all ≡ take l.step-index l.items

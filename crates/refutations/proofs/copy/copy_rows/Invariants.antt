@@ -1,5 +1,5 @@
 use Rattle.std.proofs.Common.{◌≡◌, take}
-use Rattle.proof_steps.proofs.copy.copy_rows.Given as goal
+use Rattle.refutations.proofs.copy.copy_rows.Given as goal
 
 abbrev pub invariant-loop-row : goal.invariant-loop-row
 invariant-loop-row l = l.all ≡ take l.row-index l.items

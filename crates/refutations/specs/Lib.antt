@@ -1,0 +1,5 @@
+pub mod BuilderCode
+pub mod Building
+pub mod Placed
+pub mod Refutation
+pub mod RefutationCode
