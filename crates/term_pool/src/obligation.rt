@@ -9,10 +9,10 @@ ghost use Rattle.term_pool.specs.Pooled.{of_rule, obligation_in, obligation_numb
 
 use crate::pool::Pool;
 use crate::pooled::{PooledAtom, PooledConjunct, PooledLiteral, PooledObligation};
-use rule_terms::{Atom, Conjunct, Literal, Obligation};
+use rule_terms::{Atom, Conjunct, Literal, Obligation, copy_conditions};
 use sqlite_items::Items;
 use std::alloc::Global;
-use toy_imp::{Condition, NoMemory};
+use toy_imp::NoMemory;
 
 /// The obligation by numbers, with its terms put into the pool. After want of memory the pool is as
 /// it was.
@@ -172,16 +172,4 @@ fn with_rule(
         path,
         goal,
     })
-}
-
-// Equal conditions, in the same order.
-fn copy_conditions(alloc: Global, items: &[Condition]) -> Result<Items<Condition>, NoMemory>
-    ensures { IfOk result (λ all. all ≡ items.now) }
-{
-    let mut all = Items::new(alloc);
-    for c in items {
-        let copied = c.copy(alloc)?;
-        all.push(copied)?;
-    }
-    Ok(all)
 }

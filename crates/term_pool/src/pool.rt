@@ -9,6 +9,7 @@ ghost use Rattle.term_pool.specs.Kept.{IsMissing};
 
 use crate::node::Node;
 use indexmap::IndexMap;
+use rule_terms::Size;
 use std::alloc::Global;
 use std::marker::Model;
 use toy_imp::NoMemory;
@@ -16,8 +17,8 @@ use toy_imp::NoMemory;
 /// Terms by numbers. A contract sees the list of nodes, which is a pool by the clause `pool` of `len`.
 #[derive(Drop)]
 pub struct Pool {
-    /// Each node with the nodes of its term, in the order of numbers.
-    pub(crate) counts: IndexMap<Node, u64>,
+    /// Each node with the size of its term, in the order of numbers.
+    pub(crate) sizes: IndexMap<Node, Size>,
 }
 
 impl Model for Pool {
@@ -32,9 +33,9 @@ impl Model for Pool {
 
     ghost coded = { coded_list the_row.coded };
 
-    ghost view = { λ pool. keys_of pool.counts.entries };
+    ghost view = { λ pool. keys_of pool.sizes.entries };
 
-    ghost invariant = { λ pool. IsKept pool.counts.entries };
+    ghost invariant = { λ pool. IsKept pool.sizes.entries };
 }
 
 impl Pool {
@@ -44,7 +45,7 @@ impl Pool {
         ensures { result ≡ [] }
     {
         Pool {
-            counts: IndexMap::new(alloc),
+            sizes: IndexMap::new(alloc),
         }
     }
 
@@ -53,7 +54,7 @@ impl Pool {
         ensures len { result ≡ length self.now }
         ensures pool { IsPool self.now }
     {
-        self.counts.len() as u32
+        self.sizes.len() as u32
     }
 
     /// The node of a number. Its parts have smaller numbers, and its term is made of theirs.
@@ -72,7 +73,7 @@ impl Pool {
     fn node_at(&self, at: u32) -> Option<&Node>
         ensures { option_copied result ≡ slice_get self.now at }
     {
-        match self.counts.get_index(at as usize) {
+        match self.sizes.get_index(at as usize) {
             Some((node, _)) => Some(node),
             None => None,
         }
@@ -85,7 +86,7 @@ impl Pool {
         ensures missing { IfNone result (IsMissing self.now node.now) }
         ensures pool { IsPool self.now }
     {
-        match self.counts.get_index_of(node) {
+        match self.sizes.get_index_of(node) {
             Some(i) => Some(i as u32),
             None => None,
         }
@@ -119,8 +120,8 @@ impl Pool {
         if at == u32::MAX {
             return Err(NoMemory);
         }
-        let count = self.node_count(&node);
-        self.counts.insert(node, count)?;
+        let size = self.node_size(&node);
+        self.sizes.insert(node, size)?;
         Ok(at)
     }
 
@@ -129,6 +130,6 @@ impl Pool {
     pub fn truncate(&mut self, len: u32)
         ensures { self.new ≡ take len self.old }
     {
-        self.counts.truncate(len as usize);
+        self.sizes.truncate(len as usize);
     }
 }

@@ -1,0 +1,3 @@
+pub mod PooledParts
+pub mod RootSizes
+pub mod Roots
