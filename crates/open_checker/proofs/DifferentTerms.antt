@@ -6,9 +6,9 @@ use Rattle.rule_terms.specs.Term.{StoreTerm, ValueTerm}
 use Rattle.rule_terms.specs.Order.{store_same, value_same}
 use Rattle.law_clauses.proofs.Itself.{store_itself, value_itself}
 use Rattle.law_clauses.proofs.Same.{not_true}
-use Rattle.open_checker.specs.declared.escape.StoreMark.{StoreMark}
-use Rattle.open_checker.specs.declared.escape.ValueMark.{ValueMark}
-use Rattle.open_checker.specs.Marks.{store_mark, value_mark}
+use Rattle.escape_marks.specs.declared.escape.StoreMark.{StoreMark}
+use Rattle.escape_marks.specs.declared.escape.ValueMark.{ValueMark}
+use Rattle.escape_marks.specs.Marks.{store_mark, value_mark}
 use Rattle.open_checker.specs.Once.{stores_once, values_once}
 use Rattle.open_checker.specs.EscapeLaws.{StoresDiffer, ValuesDiffer}
 

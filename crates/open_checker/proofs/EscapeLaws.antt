@@ -7,10 +7,10 @@ use Rattle.toy_imp.specs.declared.param.Kind.{Kind}
 use Rattle.rule_terms.specs.Term.{StoreTerm, ValueTerm}
 use Rattle.rule_terms.specs.Order.{store_same, value_same}
 use Rattle.law_clauses.proofs.Same.{store_is, value_is}
-use Rattle.open_checker.specs.declared.escape.StoreMark.{StoreMark}
-use Rattle.open_checker.specs.declared.escape.ValueMark.{ValueMark}
-use Rattle.open_checker.specs.declared.escape.Escape.{Escape}
-use Rattle.open_checker.specs.Marks.{store_mark, value_mark, one_class, one_value, ending, atom_true}
+use Rattle.escape_marks.specs.declared.escape.StoreMark.{StoreMark}
+use Rattle.escape_marks.specs.declared.escape.ValueMark.{ValueMark}
+use Rattle.escape_marks.specs.declared.escape.Escape.{Escape}
+use Rattle.escape_marks.specs.Marks.{store_mark, value_mark, one_class, one_value, ending, atom_true}
 use Rattle.open_checker.specs.Likeness.{like_stores, like_values, store_agrees_with, value_agrees_with, store_agrees, value_agrees}
 use Rattle.open_checker.specs.Points.{same_flag, ends_alike, ends_as_its_class}
 use Rattle.open_checker.specs.EscapeLaws.{EqualStoresEndAlike, LikeStoresAreEqual, LikeValuesAreEqual}

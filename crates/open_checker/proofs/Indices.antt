@@ -3,7 +3,7 @@ use Rattle.std.proofs.Common.{◌≡◌, ◌≢◌, suc, ap, Bool, true, false, 
 use Rattle.toy_imp.specs.declared.param.Kind.{Kind}
 use Rattle.rule_terms.specs.Term.{ValueTerm}
 use Rattle.rule_terms.specs.TermView.{terms_of}
-use Rattle.open_checker.specs.declared.escape.Escape.{Escape}
+use Rattle.escape_marks.specs.declared.escape.Escape.{Escape}
 use Rattle.open_checker.specs.Likeness.{values_agree, indices_agree}
 
 pub other_number : (params : List Kind) (e : Escape) (vs ws : List ValueTerm) → length vs ≢ length ws → indices_agree params e (terms_of vs) (terms_of ws) ≡ false

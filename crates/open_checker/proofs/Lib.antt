@@ -1,4 +1,3 @@
 pub mod DifferentTerms
 pub mod EscapeLaws
 pub mod Indices
-pub mod Places

@@ -4,10 +4,10 @@ use Rattle.std.specs.List.{list_all}
 use Rattle.toy_imp.specs.declared.param.Kind.{Kind}
 use Rattle.rule_terms.specs.Term.{StoreTerm, ValueTerm}
 use Rattle.rule_terms.specs.declared.obligation.Atom.TheVariants.{SameStore, SameValue, Ends}
-use Rattle.open_checker.specs.declared.escape.StoreMark.{StoreMark}
-use Rattle.open_checker.specs.declared.escape.ValueMark.{ValueMark}
-use Rattle.open_checker.specs.declared.escape.Escape.{Escape}
-use Rattle.open_checker.specs.Marks.{store_mark, value_mark, atom_true}
+use Rattle.escape_marks.specs.declared.escape.StoreMark.{StoreMark}
+use Rattle.escape_marks.specs.declared.escape.ValueMark.{ValueMark}
+use Rattle.escape_marks.specs.declared.escape.Escape.{Escape}
+use Rattle.escape_marks.specs.Marks.{store_mark, value_mark, atom_true}
 use Rattle.open_checker.specs.Likeness.{like_stores, like_values, store_agrees, value_agrees}
 use Rattle.open_checker.specs.Once.{stores_once, values_once}
 use Rattle.open_checker.specs.Points.{ends_as_its_class}

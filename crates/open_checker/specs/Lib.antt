@@ -1,5 +1,5 @@
 pub mod EscapeLaws
+pub mod Escapes
 pub mod Likeness
-pub mod Marks
 pub mod Once
 pub mod Points

@@ -1,19 +1,16 @@
 -- Terms of one constructor and parameter whose arguments agree, which then agree themselves in an escape.
-use Rattle.std.specs.Prelude.{ℕ, Bool, true, false, not, ◌==◌, ◌&&◌, ◌||◌, List}
+use Rattle.std.specs.Prelude.{Bool, true, false, not, ◌==◌, ◌&&◌, ◌||◌, List}
 use Rattle.std.specs.Ordering.{int_eq}
 use Rattle.std.specs.List.{list_all}
 use Rattle.toy_imp.specs.declared.param.Kind.{Kind}
 use Rattle.rule_terms.specs.Term.{StoreTerm, left_store, right_store, put, run, ValueTerm, num, get, ev, add, sub, mul, ValueTerms, no_terms, term}
-use Rattle.open_checker.specs.declared.escape.StoreMark.{StoreMark}
-use Rattle.open_checker.specs.declared.escape.ValueMark.{ValueMark}
-use Rattle.open_checker.specs.declared.escape.Escape.{Escape}
-use Rattle.open_checker.specs.Marks.{name_class, store_mark, value_mark, one_number, one_class, one_value}
+use Rattle.escape_marks.specs.declared.escape.StoreMark.{StoreMark}
+use Rattle.escape_marks.specs.declared.escape.ValueMark.{ValueMark}
+use Rattle.escape_marks.specs.declared.escape.Escape.{Escape}
+use Rattle.escape_marks.specs.Marks.{store_mark, value_mark, names_agree, one_class, one_value}
 
 module _ (params : List Kind) (e : Escape) where
-  -- names and stores agree by their classes, values by their numbers
-  abbrev pub names_agree : ℕ → ℕ → Bool
-  names_agree x y = one_number (name_class params e.names x) (name_class params e.names y)
-
+  -- stores agree by their classes, values by their numbers
   abbrev pub stores_agree : StoreTerm → StoreTerm → Bool
   stores_agree a b = one_class (store_mark e.stores a) (store_mark e.stores b)
 
@@ -30,13 +27,13 @@ module _ (params : List Kind) (e : Escape) where
   unfoldable pub like_stores : StoreTerm → StoreTerm → Bool
   like_stores left_store left_store = true
   like_stores right_store right_store = true
-  like_stores (put s x is v) (put t y js w) = names_agree x y && (stores_agree s t && (indices_agree is js && values_agree v w))
+  like_stores (put s x is v) (put t y js w) = names_agree params e x y && (stores_agree s t && (indices_agree is js && values_agree v w))
   like_stores (run j s) (run k t) = j == k && stores_agree s t
   like_stores _ _ = false
 
   unfoldable pub like_values : ValueTerm → ValueTerm → Bool
   like_values (num y) (num z) = int_eq y z
-  like_values (get x is s) (get y js t) = names_agree x y && (stores_agree s t && indices_agree is js)
+  like_values (get x is s) (get y js t) = names_agree params e x y && (stores_agree s t && indices_agree is js)
   like_values (ev j s) (ev k t) = j == k && stores_agree s t
   like_values (add a b) (add c d) = values_agree a c && values_agree b d
   like_values (sub a b) (sub c d) = values_agree a c && values_agree b d

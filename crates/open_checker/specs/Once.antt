@@ -1,11 +1,11 @@
 -- Marks that are listed once: no mark has a later one of its term, and there are as many classes as name parameters.
 use Rattle.std.specs.Prelude.{◌≡◌, Bool, true, not, ◌&&◌, List, [], ◌∷◌, is_some, length}
 use Rattle.rule_terms.specs.declared.obligation.Obligation.{Obligation}
-use Rattle.open_checker.specs.declared.escape.StoreMark.{StoreMark}
-use Rattle.open_checker.specs.declared.escape.ValueMark.{ValueMark}
-use Rattle.open_checker.specs.declared.escape.TestMark.{TestMark}
-use Rattle.open_checker.specs.declared.escape.Escape.{Escape}
-use Rattle.open_checker.specs.Marks.{count_names, store_mark, value_mark, test_mark}
+use Rattle.escape_marks.specs.declared.escape.StoreMark.{StoreMark}
+use Rattle.escape_marks.specs.declared.escape.ValueMark.{ValueMark}
+use Rattle.escape_marks.specs.declared.escape.TestMark.{TestMark}
+use Rattle.escape_marks.specs.declared.escape.Escape.{Escape}
+use Rattle.escape_marks.specs.Marks.{count_names, store_mark, value_mark, test_mark}
 
 unfoldable pub stores_once : List StoreMark → Bool
 stores_once [] = true

@@ -1,26 +1,16 @@
 -- What an escape has to meet, point by point, of the flags, the numbers and the obligation's own literals.
 -- What the universe, the arguments of terms and the laws ask is not stated here.
-use Rattle.std.specs.Prelude.{◌≡◌, ℕ, ◌^◌, ℤ, ◌-ℤ◌, Bool, true, false, not, ◌==◌, ◌&&◌, ◌||◌, List, take, Option, Some, None, slice_get, MatchOption, unsigned_abs, nat_le}
+use Rattle.std.specs.Prelude.{◌≡◌, ◌^◌, ℤ, ◌-ℤ◌, Bool, true, false, not, ◌==◌, ◌&&◌, ◌||◌, List, Option, Some, None, unsigned_abs, nat_le}
 use Rattle.std.specs.Ordering.{int_eq}
 use Rattle.std.specs.List.{list_all}
-use Rattle.std.specs.Option.{option_map_or}
 use Rattle.rule_terms.specs.Term.{ValueTerm, num}
 use Rattle.rule_terms.specs.declared.obligation.Obligation.{Obligation}
 use Rattle.law_clauses.specs.Offsets.{offset}
-use Rattle.open_checker.specs.declared.escape.StoreMark.{StoreMark}
-use Rattle.open_checker.specs.declared.escape.ValueMark.{ValueMark}
-use Rattle.open_checker.specs.declared.escape.TestMark.{TestMark}
-use Rattle.open_checker.specs.declared.escape.Escape.{Escape}
-use Rattle.open_checker.specs.Marks.{store_mark, value_mark, one_class, literal_true, gives_true}
-
--- the item at this place is the first that fails a test
-pub record IsFirstFailing {X : Type 0} (passes : X → Bool) (items : List X) (k : ℕ) : Type 0 where
-  pub before : list_all passes (take k items) ≡ true
-  pub here : option_map_or passes (slice_get items k) true ≡ false
-
--- the first item that fails a test is found, or all pass
-abbrev pub FindsFailing : {X : Type 0} → (X → Bool) → List X → Option ℕ → Type 0
-FindsFailing passes items found = MatchOption found (list_all passes items ≡ true) (IsFirstFailing passes items)
+use Rattle.escape_marks.specs.declared.escape.StoreMark.{StoreMark}
+use Rattle.escape_marks.specs.declared.escape.ValueMark.{ValueMark}
+use Rattle.escape_marks.specs.declared.escape.TestMark.{TestMark}
+use Rattle.escape_marks.specs.declared.escape.Escape.{Escape}
+use Rattle.escape_marks.specs.Marks.{store_mark, value_mark, one_class, literal_true, gives_true}
 
 -- ---- stores of one class have one flag, and so have tests of one parameter at stores of one class
 abbrev pub same_flag : Bool → Bool → Bool

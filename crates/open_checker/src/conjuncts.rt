@@ -3,16 +3,16 @@
 
 ghost use Rattle.std.specs.Prelude.{◌≡◌, ◌↔◌, IsTrue};
 ghost use Rattle.std.specs.List.{list_all};
-ghost use Rattle.open_checker.specs.Marks.{literal_true, conjunct_true};
-ghost use Rattle.open_checker.specs.Points.{GoalFails, FindsFailing};
+ghost use Rattle.escape_marks.specs.Failing.{FindsFailing};
+ghost use Rattle.escape_marks.specs.Marks.{literal_true, conjunct_true};
+ghost use Rattle.open_checker.specs.Points.{GoalFails};
 
-use crate::escape::Escape;
-use crate::truth::{is_given_true, is_true_literal};
+use escape_marks::{Escape, is_given_true, is_true_literal};
 use rule_terms::{Conjunct, Literal, Obligation};
 use toy_imp::Kind;
 
 // The place of the first literal that is false.
-#[tactic(auto, using(crate::proofs::Places::passes_next, crate::proofs::Places::first_failing))]
+#[tactic(auto, using(escape_marks::proofs::Places::passes_next, escape_marks::proofs::Places::first_failing))]
 fn first_false(params: &[Kind], e: &Escape, xs: &[Literal]) -> Option<usize>
     ensures { FindsFailing (literal_true params.now e.now) xs.now result }
 {
@@ -43,7 +43,7 @@ fn is_true_conjunct(params: &[Kind], e: &Escape, c: &Conjunct) -> bool
     !are_true(params, e, c.when.as_slice()) || is_given_true(params, e, &c.gives)
 }
 
-#[tactic(auto, using(crate::proofs::Places::passes_next, crate::proofs::Places::first_failing))]
+#[tactic(auto, using(escape_marks::proofs::Places::passes_next, escape_marks::proofs::Places::first_failing))]
 fn first_broken(params: &[Kind], e: &Escape, cs: &[Conjunct]) -> Option<usize>
     ensures { FindsFailing (conjunct_true params.now e.now) cs.now result }
 {

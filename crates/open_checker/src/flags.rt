@@ -2,11 +2,11 @@
 //! `specs/Points.antt` says which flags are compared.
 
 ghost use Rattle.std.specs.Prelude.{◌≡◌};
-ghost use Rattle.open_checker.specs.Points.{ends_alike, ends_as_its_class, FindsFailing};
+ghost use Rattle.escape_marks.specs.Failing.{FindsFailing};
+ghost use Rattle.open_checker.specs.Points.{ends_alike, ends_as_its_class};
 ghost use Rattle.open_checker.specs.Points.{one_test, holds_alike, holds_as_its_class};
 
-use crate::escape::{Escape, StoreMark, TestMark};
-use crate::truth::one_class;
+use escape_marks::{Escape, StoreMark, TestMark, one_class};
 
 fn ends_alike(m: &StoreMark, n: &StoreMark) -> bool
     ensures { result ≡ ends_alike m.now n.now }
@@ -26,7 +26,7 @@ fn ends_as_its_class(stores: &[StoreMark], m: &StoreMark) -> bool
     true
 }
 
-#[tactic(auto, using(crate::proofs::Places::passes_next, crate::proofs::Places::first_failing))]
+#[tactic(auto, using(escape_marks::proofs::Places::passes_next, escape_marks::proofs::Places::first_failing))]
 fn first_unlike_ends(stores: &[StoreMark]) -> Option<usize>
     ensures { FindsFailing (ends_as_its_class stores.now) stores.now result }
 {
@@ -70,7 +70,7 @@ fn holds_as_its_class(stores: &[StoreMark], tests: &[TestMark], m: &TestMark) ->
     true
 }
 
-#[tactic(auto, using(crate::proofs::Places::passes_next, crate::proofs::Places::first_failing))]
+#[tactic(auto, using(escape_marks::proofs::Places::passes_next, escape_marks::proofs::Places::first_failing))]
 fn first_unlike_tests(stores: &[StoreMark], tests: &[TestMark]) -> Option<usize>
     ensures { FindsFailing (holds_as_its_class stores.now tests.now) tests.now result }
 {

@@ -1,24 +1,18 @@
 //! What an escape has to meet, one exact call a point: like terms, flags, numbers, known conjuncts,
 //! path and goal. An escape is a finite model in which an obligation fails: classes of names and
-//! stores, numbers of values, and flags. `specs/Marks.antt` says which atoms are true in it,
-//! `specs/Points.antt` and `Likeness.antt` what is asked. README.md says what is missing.
+//! stores, numbers of values, and flags. `specs/Points.antt` and `Likeness.antt` say what is asked.
+//! README.md says what is missing.
 #![tactic(auto)]
 
 mod conjuncts;
-mod escape;
 mod flags;
 pub mod laws;
 mod likeness;
-mod marks;
 mod numbers;
 mod once;
-mod truth;
 
 pub use conjuncts::{broken_known, broken_path, goal_fails};
-pub use escape::{Escape, StoreMark, TestMark, ValueMark};
 pub use flags::{unlike_ends, unlike_tests};
 pub use likeness::{unlike_store, unlike_stores, unlike_value, unlike_values};
-pub use marks::{name_class, store_mark, test_mark, value_mark};
 pub use numbers::{broken_number, large_number};
 pub use once::is_listed_once;
-pub use truth::{is_true, is_true_literal};

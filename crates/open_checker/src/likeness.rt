@@ -4,14 +4,13 @@
 ghost use Rattle.std.specs.Prelude.{◌≡◌};
 ghost use Rattle.std.specs.List.{list_all};
 ghost use Rattle.rule_terms.specs.TermView.{terms_of};
+ghost use Rattle.escape_marks.specs.Failing.{FindsFailing};
 ghost use Rattle.open_checker.specs.Likeness.{stores_agree, values_agree, indices_agree};
 ghost use Rattle.open_checker.specs.Likeness.{like_stores, like_values};
 ghost use Rattle.open_checker.specs.Likeness.{store_agrees_with, value_agrees_with};
 ghost use Rattle.open_checker.specs.Likeness.{store_agrees, value_agrees};
-ghost use Rattle.open_checker.specs.Points.{FindsFailing};
 
-use crate::escape::{Escape, StoreMark, ValueMark};
-use crate::truth::{names_agree, one_class, one_value};
+use escape_marks::{Escape, StoreMark, ValueMark, names_agree, one_class, one_value};
 use rule_terms::{StoreNode, StoreTerm, ValueNode, ValueTerm};
 use toy_imp::Kind;
 
@@ -106,7 +105,7 @@ fn value_agrees_with(params: &[Kind], e: &Escape, m: &ValueMark, n: &ValueMark) 
 }
 
 // The place of the first mark of these that the mark does not agree with.
-#[tactic(auto, using(crate::proofs::Places::passes_next, crate::proofs::Places::first_failing))]
+#[tactic(auto, using(escape_marks::proofs::Places::passes_next, escape_marks::proofs::Places::first_failing))]
 fn first_unlike_store(
     params: &[Kind],
     e: &Escape,
@@ -142,7 +141,7 @@ fn store_agrees(params: &[Kind], e: &Escape, m: &StoreMark) -> bool
     store_agrees_with_all(params, e, m, e.stores.as_slice())
 }
 
-#[tactic(auto, using(crate::proofs::Places::passes_next, crate::proofs::Places::first_failing))]
+#[tactic(auto, using(escape_marks::proofs::Places::passes_next, escape_marks::proofs::Places::first_failing))]
 fn first_of_unlike_stores(params: &[Kind], e: &Escape, marks: &[StoreMark]) -> Option<usize>
     ensures { FindsFailing (store_agrees params.now e.now) marks.now result }
 {
@@ -172,7 +171,7 @@ pub fn unlike_store(params: &[Kind], e: &Escape, m: &StoreMark) -> Option<usize>
 }
 
 // The place of the first mark of these that the mark does not agree with.
-#[tactic(auto, using(crate::proofs::Places::passes_next, crate::proofs::Places::first_failing))]
+#[tactic(auto, using(escape_marks::proofs::Places::passes_next, escape_marks::proofs::Places::first_failing))]
 fn first_unlike_value(
     params: &[Kind],
     e: &Escape,
@@ -208,7 +207,7 @@ fn value_agrees(params: &[Kind], e: &Escape, m: &ValueMark) -> bool
     value_agrees_with_all(params, e, m, e.values.as_slice())
 }
 
-#[tactic(auto, using(crate::proofs::Places::passes_next, crate::proofs::Places::first_failing))]
+#[tactic(auto, using(escape_marks::proofs::Places::passes_next, escape_marks::proofs::Places::first_failing))]
 fn first_of_unlike_values(params: &[Kind], e: &Escape, marks: &[ValueMark]) -> Option<usize>
     ensures { FindsFailing (value_agrees params.now e.now) marks.now result }
 {

@@ -4,12 +4,12 @@
 ghost use Rattle.std.specs.Prelude.{◌≡◌, ◌-ℤ◌};
 ghost use Rattle.std.specs.Ordering.{int_eq};
 ghost use Rattle.law_clauses.specs.Offsets.{offset};
-ghost use Rattle.open_checker.specs.Marks.{value_mark};
+ghost use Rattle.escape_marks.specs.Failing.{FindsFailing};
+ghost use Rattle.escape_marks.specs.Marks.{value_mark};
 ghost use Rattle.open_checker.specs.Points.{is_itself, is_that_number, is_offset, number_fits};
-ghost use Rattle.open_checker.specs.Points.{is_small, FindsFailing};
+ghost use Rattle.open_checker.specs.Points.{is_small};
 
-use crate::escape::{Escape, ValueMark};
-use crate::marks::value_mark;
+use escape_marks::{Escape, ValueMark, value_mark};
 use law_clauses::split_offset;
 use rule_terms::{ValueNode, ValueTerm};
 
@@ -60,7 +60,7 @@ fn number_fits(marks: &[ValueMark], m: &ValueMark) -> bool
     is_itself(&m.value, m.number) && is_offset(marks, &m.value, m.number)
 }
 
-#[tactic(auto, using(crate::proofs::Places::passes_next, crate::proofs::Places::first_failing))]
+#[tactic(auto, using(escape_marks::proofs::Places::passes_next, escape_marks::proofs::Places::first_failing))]
 fn first_unfit(marks: &[ValueMark]) -> Option<usize>
     ensures { FindsFailing (number_fits marks.now) marks.now result }
 {
@@ -87,7 +87,7 @@ fn is_small(m: &ValueMark) -> bool
     m.number.unsigned_abs() <= GREATEST
 }
 
-#[tactic(auto, using(crate::proofs::Places::passes_next, crate::proofs::Places::first_failing))]
+#[tactic(auto, using(escape_marks::proofs::Places::passes_next, escape_marks::proofs::Places::first_failing))]
 fn first_large(marks: &[ValueMark]) -> Option<usize>
     ensures { FindsFailing is_small marks.now result }
 {

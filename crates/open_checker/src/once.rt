@@ -2,11 +2,12 @@
 //! `specs/Once.antt` says what is asked. Each mark is looked up among the later ones.
 
 ghost use Rattle.std.specs.Prelude.{◌≡◌, ◌↔◌, IsTrue, is_some};
-ghost use Rattle.open_checker.specs.Marks.{store_mark, value_mark, test_mark};
+ghost use Rattle.escape_marks.specs.Marks.{store_mark, value_mark, test_mark};
 ghost use Rattle.open_checker.specs.Once.{stores_once, values_once, tests_once, IsListedOnce};
 
-use crate::escape::{Escape, StoreMark, TestMark, ValueMark};
-use crate::marks::{count_names, store_mark, test_mark, value_mark};
+use escape_marks::{
+    Escape, StoreMark, TestMark, ValueMark, count_names, store_mark, test_mark, value_mark,
+};
 use rule_terms::{Obligation, StoreTerm, ValueTerm};
 
 fn has_store_mark(marks: &[StoreMark], s: &StoreTerm) -> bool
@@ -18,7 +19,7 @@ fn has_store_mark(marks: &[StoreMark], s: &StoreTerm) -> bool
     }
 }
 
-#[tactic(auto, using(crate::proofs::Places::whole_rest), unfolding(crate::specs::Once::stores_once))]
+#[tactic(auto, using(escape_marks::proofs::Places::whole_rest), unfolding(crate::specs::Once::stores_once))]
 fn stores_once(marks: &[StoreMark]) -> bool
     ensures { result ≡ stores_once marks.now }
 {
@@ -39,7 +40,7 @@ fn has_value_mark(marks: &[ValueMark], v: &ValueTerm) -> bool
     }
 }
 
-#[tactic(auto, using(crate::proofs::Places::whole_rest), unfolding(crate::specs::Once::values_once))]
+#[tactic(auto, using(escape_marks::proofs::Places::whole_rest), unfolding(crate::specs::Once::values_once))]
 fn values_once(marks: &[ValueMark]) -> bool
     ensures { result ≡ values_once marks.now }
 {
@@ -60,7 +61,7 @@ fn has_test_mark(marks: &[TestMark], k: u32, s: &StoreTerm) -> bool
     }
 }
 
-#[tactic(auto, using(crate::proofs::Places::whole_rest), unfolding(crate::specs::Once::tests_once))]
+#[tactic(auto, using(escape_marks::proofs::Places::whole_rest), unfolding(crate::specs::Once::tests_once))]
 fn tests_once(marks: &[TestMark]) -> bool
     ensures { result ≡ tests_once marks.now }
 {

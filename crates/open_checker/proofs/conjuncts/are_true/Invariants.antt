@@ -1,7 +1,7 @@
 -- What is left of the literals is true exactly where all are.
 use Rattle.std.proofs.Common.{◌≡◌, drop}
 use Rattle.std.specs.List.{list_all}
-use Rattle.open_checker.specs.Marks.{literal_true}
+use Rattle.escape_marks.specs.Marks.{literal_true}
 use Rattle.open_checker.proofs.conjuncts.are_true.Given as goal
 
 abbrev pub invariant-loop-x : goal.invariant-loop-x

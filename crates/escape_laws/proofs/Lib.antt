@@ -1,0 +1,5 @@
+pub mod BackKept
+pub mod KeptClauses
+pub mod KeptLaws
+pub mod KeptPairs
+pub mod ReadShape

@@ -1,0 +1,8 @@
+-- What is left of the marks has the same first mark of the term as all of them.
+use Rattle.std.proofs.Common.{◌≡◌, drop}
+use Rattle.rule_terms.specs.Term.{get}
+use Rattle.escape_marks.specs.Marks.{value_mark}
+use Rattle.escape_laws.proofs.reads.read_mark.Given as goal
+
+abbrev pub invariant-loop-m : goal.invariant-loop-m
+invariant-loop-m l = value_mark (drop l.m-index l.marks) (get l.p.name l.p.indices l.s) ≡ value_mark l.marks (get l.p.name l.p.indices l.s)

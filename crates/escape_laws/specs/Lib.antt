@@ -1,0 +1,5 @@
+pub mod KeptLaws
+pub mod KeptPairs
+pub mod MarkedLaws
+pub mod PairLaws
+pub mod ReadBack

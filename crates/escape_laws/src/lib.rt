@@ -1,0 +1,20 @@
+//! Whether the laws hold in an escape, law by law: each clause of a law all of whose terms have
+//! marks has a true literal. The clauses are found from the marks. `specs/MarkedLaws.antt` says
+//! which clauses speak of a term. README.md says which laws are missing.
+#![tactic(auto)]
+
+mod back_law;
+mod end_laws;
+mod kept;
+pub mod laws;
+mod number_laws;
+mod pair_laws;
+mod read_laws;
+mod reads;
+
+pub use back_law::broken_read_back;
+pub use end_laws::broken_end;
+pub use number_laws::broken_sum;
+pub use pair_laws::{broken_exchange, sides_end, unlike_halts};
+pub use read_laws::broken_read;
+pub use reads::read_mark;

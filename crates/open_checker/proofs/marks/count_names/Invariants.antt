@@ -1,7 +1,0 @@
--- So many are among the parameters looked at, and the others are counted behind them.
-use Rattle.std.proofs.Common.{◌≡◌, ◌+◌, ◌≤◌, drop}
-use Rattle.open_checker.specs.Marks.{count_names}
-use Rattle.open_checker.proofs.marks.count_names.Given as goal
-
-abbrev pub invariant-loop-kind : goal.invariant-loop-kind
-invariant-loop-kind l = record { counted : l.n + count_names (drop l.kind-index l.params) ≡ count_names l.params; few : l.n ≤ l.kind-index }

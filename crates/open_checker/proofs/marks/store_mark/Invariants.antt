@@ -1,7 +1,0 @@
--- What is left of the marks has the same first mark of the term as all of them.
-use Rattle.std.proofs.Common.{◌≡◌, drop}
-use Rattle.open_checker.specs.Marks.{store_mark}
-use Rattle.open_checker.proofs.marks.store_mark.Given as goal
-
-abbrev pub invariant-loop-m : goal.invariant-loop-m
-invariant-loop-m l = store_mark (drop l.m-index l.marks) l.s ≡ store_mark l.marks l.s

@@ -1,7 +1,0 @@
--- What is left of the marks has the same first mark of the term as all of them.
-use Rattle.std.proofs.Common.{◌≡◌, drop}
-use Rattle.open_checker.specs.Marks.{value_mark}
-use Rattle.open_checker.proofs.marks.value_mark.Given as goal
-
-abbrev pub invariant-loop-m : goal.invariant-loop-m
-invariant-loop-m l = value_mark (drop l.m-index l.marks) l.v ≡ value_mark l.marks l.v
