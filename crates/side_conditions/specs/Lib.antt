@@ -1,8 +1,11 @@
 pub mod ApartLaws
+pub mod ByText
 pub mod Each
 pub mod Frame
 pub mod FrameLaws
 pub mod IgnoreLaws
 pub mod KeepLaws
+pub mod Offsets
 pub mod Places
 pub mod Seeking
+pub mod TextLaws

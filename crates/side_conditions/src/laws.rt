@@ -1,11 +1,13 @@
 //! The frame law and its parts, each the contract of a function that does nothing.
-//! The statements are in `specs/FrameLaws.antt`, `specs/ApartLaws.antt`, `specs/KeepLaws.antt` and
-//! `specs/IgnoreLaws.antt`.
+//! The statements are in `specs/FrameLaws.antt`, `specs/ApartLaws.antt`, `specs/KeepLaws.antt`,
+//! `specs/IgnoreLaws.antt`, `specs/TextLaws.antt` and `specs/Offsets.antt`.
 
 ghost use Rattle.side_conditions.specs.ApartLaws.{ApartCommute, AssertlessIsQuiet};
 ghost use Rattle.side_conditions.specs.FrameLaws.{FrameLaw, WorkTellsOutcome, WritesTellStore, OthersKept, WithinText};
 ghost use Rattle.side_conditions.specs.IgnoreLaws.{AbsentIgnoredByExpr, AbsentIgnoredByTest, AbsentIgnoredByStmt};
 ghost use Rattle.side_conditions.specs.KeepLaws.{UnwrittenExprKept, UnwrittenTestKept, UnwrittenNameKept};
+ghost use Rattle.side_conditions.specs.Offsets.{OffsetTells};
+ghost use Rattle.side_conditions.specs.TextLaws as text;
 
 /// Steps from stores that agree on the cells that those from the first read: the same reads, the same
 /// writes of the same numbers, and the same work left.
@@ -71,4 +73,20 @@ pub fn absent_ignored_by_test()
 /// A cell of a name that a block neither reads nor writes may be written before the block or behind it.
 pub fn absent_ignored_by_stmt()
     ensures { AbsentIgnoredByStmt }
+{}
+
+/// Fillings of which a side condition holds by text meet it.
+pub fn text_suffices()
+    ensures keeps { text.KeepsSuffices }
+    ensures ignores { text.IgnoresSuffices }
+    ensures commutes { text.CommutesSuffices }
+    ensures positive { text.PositiveSuffices }
+    ensures constant { text.ConstantSuffices }
+    ensures distinct { text.DistinctSuffices }
+    ensures quiet { text.QuietSuffices }
+{}
+
+/// An index of the form `k + c` is c from the variable k, in every store.
+pub fn offset_tells()
+    ensures { OffsetTells }
 {}

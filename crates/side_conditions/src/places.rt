@@ -44,7 +44,7 @@ pub struct Sought<'a> {
 
 impl<'a> Sought<'a> {
     /// Whether a place is one of them.
-    fn has(self, x: &Name, indices: &[Expr]) -> bool
+    pub(crate) fn has(self, x: &Name, indices: &[Expr]) -> bool
         ensures { result ≡ sought self.entry x.now (exprs_of indices.now) }
     {
         is_spelled(x, self.name) && self.form.wants(indices)
@@ -52,7 +52,7 @@ impl<'a> Sought<'a> {
 }
 
 /// Whether a name has these bytes; a parameter has none.
-fn is_spelled(x: &Name, bytes: &[u8]) -> bool
+pub(crate) fn is_spelled(x: &Name, bytes: &[u8]) -> bool
     ensures { result ≡ bytes_eq (spelled x.now) bytes.now }
 {
     match x {
