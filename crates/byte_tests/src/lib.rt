@@ -6,3 +6,5 @@
 mod stream_tests;
 #[cfg(test)]
 mod text_tests;
+#[cfg(test)]
+mod word_tests;

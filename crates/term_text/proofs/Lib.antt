@@ -1,0 +1,3 @@
+pub mod ReadTerms
+pub mod TermTurns
+pub mod WordTurns

@@ -1,0 +1,4 @@
+pub mod TermLaws
+pub mod TermReading
+pub mod TermText
+pub mod Unread

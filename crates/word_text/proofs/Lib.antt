@@ -1,0 +1,4 @@
+pub mod LineReads
+pub mod ReadBack
+pub mod Runs
+pub mod WordTable

@@ -1,0 +1,4 @@
+pub mod Lines
+pub mod WordLaws
+pub mod WordLookup
+pub mod Words
