@@ -18,6 +18,9 @@ mod written_alike;
 
 pub use arguments::{Argument, same_store_top, same_value_top, store_argument, value_argument};
 pub use dispatch::is_clause;
+pub use listed::{
+    lists_commutes, lists_constant, lists_distinct, lists_ignores, lists_keeps, lists_positive,
+};
 pub use literals::{is_negation, same_signed};
 pub use offsets::{Offset, split_offset};
 pub use shapes::{count, is_add, is_ev, is_get, is_mul, is_num, is_put, is_run, is_sub};
