@@ -1,0 +1,61 @@
+//! `swaps` by text: `specs/SwapText.antt` says when two statements swap over one or two counters, region by region.
+//! The time is at worst the square of the blocks' sizes together; nothing takes memory.
+
+ghost use Rattle.std.specs.Prelude.{◌≡◌};
+ghost use Rattle.swap_conditions.specs.Pairs.{names_of};
+ghost use Rattle.swap_conditions.specs.SwapText as spec;
+
+use crate::clashing::{block_clashes, writes_name};
+use crate::spans::bytes_of;
+use side_conditions::block_asserts;
+use toy_imp::{Block, Name, Region};
+
+/// The counters over which two statements swap.
+#[derive(Clone, Copy)]
+pub enum Counters<'a> {
+    One(&'a Name),
+    Two(&'a Name, &'a Name),
+}
+
+/// Two statements, which may be one twice, and the pairs of tuples of counters for which they are to swap.
+#[derive(Clone, Copy)]
+pub struct Swap<'a> {
+    pub first: &'a Block,
+    pub second: &'a Block,
+    pub counters: Counters<'a>,
+    pub region: Region,
+}
+
+/// Whether two statements swap by text: no `assert` stands in either, the counters differ, neither writes one, and
+/// the region's demand is met at each write of either whose name the other reads or writes.
+pub fn swaps_by_text(q: Swap) -> bool
+    ensures { result ≡ spec.swaps_by_text q.entry.first.now q.entry.second.now (names_of q.entry.counters) q.entry.region }
+{
+    !block_asserts(q.first)
+        && !block_asserts(q.second)
+        && differ(q.counters)
+        && leaves(q.counters, q.first)
+        && leaves(q.counters, q.second)
+        && !block_clashes(q, q.second, q.first)
+        && !block_clashes(q, q.first, q.second)
+}
+
+/// Whether the counters have different bytes.
+fn differ(counters: Counters) -> bool
+    ensures { result ≡ spec.differ (names_of counters.entry) }
+{
+    match counters {
+        Counters::One(_) => true,
+        Counters::Two(k, l) => bytes_of(k) != bytes_of(l),
+    }
+}
+
+/// Whether a block writes none of the counters.
+fn leaves(counters: Counters, b: &Block) -> bool
+    ensures { result ≡ spec.leaves (names_of counters.entry) b.now }
+{
+    match counters {
+        Counters::One(k) => !writes_name(bytes_of(k), b),
+        Counters::Two(k, l) => !writes_name(bytes_of(k), b) && !writes_name(bytes_of(l), b),
+    }
+}
