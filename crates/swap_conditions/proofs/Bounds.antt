@@ -1,9 +1,8 @@
 -- What is known of a block's places by one walk decides what is asked of each of them.
-use Rattle.std.specs.Prelude.{◌≡◌, ℕ, ℤ, Bool, true, false, not, cond, ◌&&◌, ◌||◌, List, Option, Some, None, int_le, refl}
+use Rattle.std.specs.Prelude.{◌≡◌, ℤ, Bool, true, false, not, cond, ◌&&◌, Option, Some, None, int_le, refl}
 use Rattle.std.specs.Ordering.{int_eq}
 use Rattle.std.proofs.Common.{sym, ◌∙◌, ap, ap₂, arith}
 use Rattle.std.proofs.lemmas.Int.{ints}
-use Rattle.toy_imp.specs.declared.name.Name.{Name}
 use Rattle.toy_imp.specs.Expr.{Exprs}
 use Rattle.toy_imp.specs.Block.{Block}
 use Rattle.side_conditions.specs.Seeking.{named}

@@ -19,7 +19,7 @@ use Rattle.side_conditions.proofs.Apart.{moved, past}
 use Rattle.swap_conditions.proofs.Turns.{inside, outside, each_outside, TurnBy, turn_by, by_turn, inside_agree}
 
 -- ---- the cells that a run touches
-pub cells_of : List Write → List Cell
+abbrev pub cells_of : List Write → List Cell
 cells_of [] = []
 cells_of (w ∷ ws) = w.0 ∷ cells_of ws
 
@@ -30,7 +30,6 @@ abbrev pub AllApart : List Cell → List Write → Type 0
 AllApart cs ws = Each (λ c. IsApart c ws) cs
 
 of_cells : (P : Cell → Type 0) (ws : List Write) → Each P (cells_of ws) → Each (λ (w : Write). P w.0) ws
-unfolding cells_of
 of_cells P [] h = tt
 of_cells P (w ∷ ws) h = (h.0, of_cells P ws h.1)
 

@@ -1,7 +1,13 @@
 pub mod Bounds
 pub mod Distances
 pub mod Exchanging
+pub mod Implying
+pub mod Meeting
 pub mod Members
+pub mod Offsetting
 pub mod Passing
+pub mod Placed
 pub mod Positions
+pub mod Separating
+pub mod Sharing
 pub mod Turns

@@ -3,7 +3,7 @@
 use Rattle.std.specs.Prelude.{◌≡◌, ◌≢◌, ◌⊎◌, ℕ, ℤ, List, [], ◌∷◌, refl}
 use Rattle.std.proofs.Common.{sym, ◌∙◌, ap, subst, inl, inr}
 use Rattle.toy_imp.specs.declared.name.Name.{Name}
-use Rattle.toy_imp.specs.Cell.{Cell, spelled, variable}
+use Rattle.toy_imp.specs.Cell.{Cell, variable}
 use Rattle.toy_imp.specs.Store.{Store, read, write}
 use Rattle.toy_imp.specs.Value.{value}
 use Rattle.toy_imp.specs.Expr.{num}
@@ -96,7 +96,7 @@ let_ends x v p s m r =
 
 -- ---- several names
 -- the store with the names set
-pub inside : List Name → List ℤ → Store → Store
+abbrev pub inside : List Name → List ℤ → Store → Store
 inside [] vs s = s
 inside (x ∷ xs) [] s = s
 inside (x ∷ xs) (v ∷ vs) s = inside xs vs (write s (variable x) v)
@@ -119,7 +119,7 @@ pub record TurnBy (xs : List Name) (vs : List ℤ) (b : Block) (s t : Store) : T
   pub store_is : written s (outside xs vs (writes steps (before b []) (inside xs vs s))) ≡ t
 
 pub turn_by : (xs : List Name) (vs : List ℤ) (b : Block) (s t : Store) → Ends (set_round xs vs b) s t → TurnBy xs vs b s t
-unfolding inside outside
+unfolding outside
 turn_by [] vs b s t r =
     let by : EndsBy b s t = ends_by b s t r in
     record { steps = by.steps; nothing_left = by.nothing_left; store_is = by.store_is }
@@ -138,7 +138,7 @@ turn_by (x ∷ xs) (v ∷ vs) b s t r =
 
 pub by_turn : (xs : List Name) (vs : List ℤ) (b : Block) (s : Store) (ws : List Write)
     → Ends b (inside xs vs s) (written (inside xs vs s) ws) → Ends (set_round xs vs b) s (written s (outside xs vs ws))
-unfolding inside outside
+unfolding outside
 by_turn [] vs b s ws r = r
 by_turn (x ∷ xs) [] b s ws r = r
 by_turn (x ∷ xs) (v ∷ vs) b s ws r =
@@ -153,7 +153,6 @@ set_agree c d v s t (inl e) h =
 set_agree c d v s t (inr apart) h = write_keeps_others s c v d apart ∙ h ∙ sym (write_keeps_others t c v d apart)
 
 pub inside_agree : (xs : List Name) (vs : List ℤ) (d : Cell) (s t : Store) → read s d ≡ read t d → read (inside xs vs s) d ≡ read (inside xs vs t) d
-unfolding inside
 inside_agree [] vs d s t h = h
 inside_agree (x ∷ xs) [] d s t h = h
 inside_agree (x ∷ xs) (v ∷ vs) d s t h =

@@ -1,6 +1,6 @@
 -- Whether a side condition of any kind holds by text for an instance. A condition whose numbers have no fillings of its kinds
 -- does not hold, nor does a `swaps` over another number of names than one or two.
-use Rattle.std.specs.Prelude.{ℕ, Bool, false, List, [], ◌∷◌, map, Option, Some, slice_get}
+use Rattle.std.specs.Prelude.{Bool, false, List, [], ◌∷◌, map, Option, Some, slice_get}
 use Rattle.toy_imp.specs.declared.condition.Condition.{Condition}
 use Rattle.toy_imp.specs.declared.condition.Condition.TheVariants as condition
 use Rattle.toy_imp.specs.declared.condition.Region.{Region}

@@ -1,5 +1,5 @@
 -- What is known of the distances of places that were passed: the least and the greatest, or that one place has none.
-use Rattle.std.specs.Prelude.{ℕ, ℤ, Bool, true, false, cond, ◌&&◌, List, Option, Some, None, int_le}
+use Rattle.std.specs.Prelude.{ℤ, Bool, true, false, cond, ◌&&◌, Option, Some, None, int_le}
 use Rattle.toy_imp.specs.declared.name.Name.{Name}
 use Rattle.toy_imp.specs.Expr.{Exprs}
 use Rattle.side_conditions.specs.Seeking.{named}

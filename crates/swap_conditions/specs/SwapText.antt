@@ -59,10 +59,11 @@ touches b z = reads_name b z || writes_name b z
 abbrev pub clashes : Region → List Name → Block → Block → Block → Name → Exprs → Bool
 clashes r ks s t other x is = touches other (spelled x) && not (is_apart r ks (spelled x) is s t)
 
--- counters that differ
-abbrev pub differ : List Name → Bool
-differ (k ∷ l ∷ []) = not (bytes_eq (spelled k) (spelled l))
-differ _ = true
+-- one counter, or two that differ
+abbrev pub are_counters : List Name → Bool
+are_counters (k ∷ []) = true
+are_counters (k ∷ l ∷ []) = not (bytes_eq (spelled k) (spelled l))
+are_counters _ = false
 
 -- a block that writes none of the counters
 abbrev pub leaves : List Name → Block → Bool
@@ -72,5 +73,5 @@ leaves (k ∷ ks) b = not (writes_name b (spelled k)) && leaves ks b
 abbrev pub swaps_by_text : Block → Block → List Name → Region → Bool
 swaps_by_text s t ks r =
     (not (block_asserts s) && not (block_asserts t))
-    && ((differ ks && (leaves ks s && leaves ks t))
+    && ((are_counters ks && (leaves ks s && leaves ks t))
     && (not (block_writes (clashes r ks s t t) s) && not (block_writes (clashes r ks s t s) t)))

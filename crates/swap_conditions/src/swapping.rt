@@ -42,7 +42,7 @@ pub fn swaps_by_text(q: Swap) -> bool
 
 /// Whether the counters have different bytes.
 fn differ(counters: Counters) -> bool
-    ensures { result ≡ spec.differ (names_of counters.entry) }
+    ensures { result ≡ spec.are_counters (names_of counters.entry) }
 {
     match counters {
         Counters::One(_) => true,
