@@ -1,5 +1,6 @@
 pub mod Bounds
 pub mod Distances
+pub mod Examples
 pub mod Exchanging
 pub mod Implying
 pub mod Meeting
