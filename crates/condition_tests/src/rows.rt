@@ -1,5 +1,5 @@
-//! Rows of side conditions: the condition's word, what stands for its parameters in order, and whether it holds by text.
-//! A filling is a statement S, an expression E, a test B or a name X, and then its text.
+//! Rows of side conditions: the condition's word, what stands for its parameters in order, and whether it holds by
+//! text. A filling is a statement S, an expression E, a test B or a name X, and then its text.
 
 /// The lines of the table but `swaps`, and fillings of other kinds than a line has.
 pub const LINES: &str = "\

@@ -1,5 +1,5 @@
--- Two blocks that swap by text swap: their runs with the counters set to tuples of the region touch different cells of the names that
--- they share, so the turns may be exchanged, whatever names are set round either.
+-- Two blocks that swap by text swap: their runs with the counters set to tuples of the region touch different cells of the
+-- names that they share, so the turns may be exchanged, whatever names are set round either.
 use Rattle.std.specs.Prelude.{◌≡◌, ◌≢◌, ℕ, ℤ, Bool, true, false, not, ◌&&◌, ◌||◌, List, [], ◌∷◌, ◌++◌, length, bytes_eq, refl}
 use Rattle.std.proofs.Common.{sym, ◌∙◌, ap, subst, inl, inr, arith, true≢false}
 use Rattle.std.proofs.lemmas.Slice.Eq.{bytes_eq-Decides}

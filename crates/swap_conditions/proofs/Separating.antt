@@ -1,5 +1,5 @@
--- Where a region's demand is met, no cell of the name is touched both by a run of the first block and by one of the second, with the
--- counters at a pair of tuples of the region.
+-- Where a region's demand is met, no cell of the name is touched both by a run of the first block and by one of the second,
+-- with the counters at a pair of tuples of the region.
 use Rattle.std.specs.Prelude.{◌≡◌, ◌≢◌, ◌⊎◌, ◌<ℤ◌, ◌≤ℤ◌, ℕ, ℤ, ◌+ℤ◌, Bool, true, false, not, ◌&&◌, ◌||◌, List, [], ◌∷◌, Option, Some, None, refl}
 use Rattle.std.specs.Ordering.{int_eq}
 use Rattle.std.proofs.Common.{sym, ◌∙◌, ap, inl, inr, arith, true≢false}

@@ -101,7 +101,8 @@ fn is_ordered_at(q: Swap, k: &Name, x: &Name, indices: &[Expr], p: usize) -> boo
 /// Whether all places in a block have this distance.
 fn all_at(a: Asked, b: &Block, c: i128) -> bool
     ensures { let r = a.entry in
-        result ≡ every_place r.name.now (λ es. is_just c (distance r.counter.now r.count r.position es)) b.now }
+        let far = distance r.counter.now r.count r.position in
+        result ≡ every_place r.name.now (λ es. is_just c (far es)) b.now }
 {
     block_span(a, b, Span::Nowhere).is_at(c)
 }

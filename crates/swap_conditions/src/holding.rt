@@ -98,7 +98,8 @@ fn quiet(by: &Instance, s: u32) -> bool
 
 fn swaps(by: &Instance, s: u32, t: u32, over: &[u32], region: Region) -> bool
     ensures { let all = by.now.fillings in
-        result ≡ spec.swap_holds (slice_get all s) (slice_get all t) (map (slice_get all) over.now) region }
+        let names = map (slice_get all) over.now in
+        result ≡ spec.swap_holds (slice_get all s) (slice_get all t) names region }
 {
     match (by.fillings.get(s as usize), by.fillings.get(t as usize)) {
         (Some(Filling::Stmt(first)), Some(Filling::Stmt(second))) => {
@@ -150,7 +151,8 @@ fn swap_over_two(
     over: (u32, u32),
     region: Region,
 ) -> bool
-    ensures { let names = slice_get by.now.fillings over.0 ∷ slice_get by.now.fillings over.1 ∷ [] in
+    ensures { let all = by.now.fillings in
+        let names = slice_get all over.0 ∷ slice_get all over.1 ∷ [] in
         result ≡ spec.names_swap first.now second.now names region }
 {
     match (

@@ -12,5 +12,4 @@ mod swapping;
 mod walks;
 
 pub use holding::holds_by_text;
-pub use spans::{Asked, Span};
 pub use swapping::{Counters, Swap, swaps_by_text};

@@ -12,7 +12,7 @@ use toy_imp::{Expr, Name};
 
 /// The distances of the places that were passed.
 #[derive(Clone, Copy)]
-pub enum Span {
+pub(crate) enum Span {
     /// No place was passed.
     Nowhere,
     /// Each place has a distance; these are the least and the greatest.
@@ -23,7 +23,7 @@ pub enum Span {
 
 /// Which places are asked of, and which index of theirs.
 #[derive(Clone, Copy)]
-pub struct Asked<'a> {
+pub(crate) struct Asked<'a> {
     /// The places' name, by its bytes.
     pub name: &'a [u8],
     /// The counter from which they are so far, by the bytes of its name.

@@ -29,7 +29,8 @@ pub struct Swap<'a> {
 /// Whether two statements swap by text: no `assert` stands in either, the counters differ, neither writes one, and
 /// the region's demand is met at each write of either whose name the other reads or writes.
 pub fn swaps_by_text(q: Swap) -> bool
-    ensures { result ≡ spec.swaps_by_text q.entry.first.now q.entry.second.now (names_of q.entry.counters) q.entry.region }
+    ensures { let p = q.entry in
+        result ≡ spec.swaps_by_text p.first.now p.second.now (names_of p.counters) p.region }
 {
     !block_asserts(q.first)
         && !block_asserts(q.second)
