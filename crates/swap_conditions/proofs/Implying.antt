@@ -13,18 +13,20 @@ use Rattle.toy_imp.specs.Run.{before}
 use Rattle.toy_imp.specs.Ends.{EndAlike}
 use Rattle.toy_imp.specs.Swaps.{IsWithin, set_round, Outer, turn}
 use Rattle.toy_imp.proofs.Stores.{write_is_read, write_keeps_others}
-use Rattle.side_conditions.specs.Places.{block_asserts, block_writes}
-use Rattle.side_conditions.specs.Seeking.{reads_name, writes_name}
+use Rattle.side_conditions.specs.Places.{block_asserts}
+use Rattle.side_conditions.specs.Seeking.{named, writes_name}
 use Rattle.side_conditions.specs.Frame.{Write, reads, writes}
 use Rattle.side_conditions.proofs.Sufficing.{first_yes, second_yes}
 use Rattle.side_conditions.proofs.Apart.{assertless_is_quiet}
-use Rattle.swap_conditions.specs.SwapText.{is_apart, touches, clashes, are_counters, leaves, swaps_by_text}
+use Rattle.swap_conditions.specs.Standing.{block_has}
+use Rattle.swap_conditions.specs.SwapText.{is_apart, touches, shares, clashes, are_counters, leaves, swaps_by_text}
 use Rattle.swap_conditions.specs.SwapLaws.{SwapSuffices}
 use Rattle.swap_conditions.proofs.Members.{Stands, of_standing, at_standing, stands_right}
 use Rattle.swap_conditions.proofs.Turns.{inside}
 use Rattle.swap_conditions.proofs.Exchanging.{cells_of, touched, AllApart, RunsApart, exchange}
 use Rattle.swap_conditions.proofs.Placed.{yes_of, no_of}
-use Rattle.swap_conditions.proofs.Sharing.{WritePlace, write_place, touched_names, written_names}
+use Rattle.swap_conditions.proofs.Sharing.{HasPlace, touched_place, touched_names, written_names}
+use Rattle.swap_conditions.proofs.Moving.{shared_by_both}
 use Rattle.swap_conditions.proofs.Separating.{Counted, region_separates}
 
 -- ---- what the test says, part by part
@@ -34,25 +36,22 @@ pub record SwapsText (S T : Block) (ks : List Name) (r : Region) : Type 0 where
   pub counters : are_counters ks ≡ true
   pub first_leaves : leaves ks S ≡ true
   pub second_leaves : leaves ks T ≡ true
-  pub first_clashes : block_writes (clashes r ks S T T) S ≡ false
-  pub second_clashes : block_writes (clashes r ks S T S) T ≡ false
+  pub no_clash : block_has (clashes r ks S T) S ≡ false
 
 pub parts_of_text : (S T : Block) (ks : List Name) (r : Region) → swaps_by_text S T ks r ≡ true → SwapsText S T ks r
 parts_of_text S T ks r e =
     let quiet : (not (block_asserts S) && not (block_asserts T)) ≡ true = first_yes _ _ e in
-    let rest : ((are_counters ks && (leaves ks S && leaves ks T)) && (not (block_writes (clashes r ks S T T) S) && not (block_writes (clashes r ks S T S) T))) ≡ true =
+    let rest : ((are_counters ks && (leaves ks S && leaves ks T)) && not (block_has (clashes r ks S T) S)) ≡ true =
     second_yes (not (block_asserts S) && not (block_asserts T)) _ e in
     let names : (are_counters ks && (leaves ks S && leaves ks T)) ≡ true = first_yes _ _ rest in
     let left : (leaves ks S && leaves ks T) ≡ true = second_yes (are_counters ks) _ names in
-    let clash : (not (block_writes (clashes r ks S T T) S) && not (block_writes (clashes r ks S T S) T)) ≡ true = second_yes (are_counters ks && (leaves ks S && leaves ks T)) _ rest in
     record {
       first_assertless = no_of _ (first_yes _ _ quiet);
       second_assertless = no_of _ (second_yes (not (block_asserts S)) _ quiet);
       counters = first_yes _ _ names;
       first_leaves = first_yes _ _ left;
       second_leaves = second_yes (leaves ks S) _ left;
-      first_clashes = no_of _ (first_yes _ _ clash);
-      second_clashes = no_of _ (second_yes (not (block_writes (clashes r ks S T T) S)) _ clash);
+      no_clash = no_of _ (second_yes (are_counters ks && (leaves ks S && leaves ks T)) _ rest);
     }
 
 -- ---- the runs are apart
@@ -61,29 +60,37 @@ stands_cell [] w s = absurd s
 stands_cell (u ∷ ws) w (inl e) = inl (ap (λ (q : Write). q.0) e)
 stands_cell (u ∷ ws) w (inr s) = inr (stands_cell ws w s)
 
-or_second : (a b : Bool) → b ≡ true → (a || b) ≡ true
-or_second true b e = refl
-or_second false b e = e
+first_shares : (a b c : Bool) → a ≡ true → b ≡ true → ((a && b) || c) ≡ true
+first_shares true true c e f = refl
+first_shares true false c e f = absurd (true≢false (sym f))
+first_shares false b c e f = absurd (true≢false (sym e))
+
+second_shares : (a b c : Bool) → b ≡ true → c ≡ true → (a || (b && c)) ≡ true
+second_shares true b c e f = refl
+second_shares false true c e f = f
+second_shares false false c e f = absurd (true≢false (sym e))
 
 module _ (S T : Block) (ks : List Name) (r : Region) (a b : List ℤ) (text : SwapsText S T ks r) (within : IsWithin r a b) where
   module _ (i j : ℕ) (s t : Store) (h : Counted ks a s) (l : Counted ks b t) where
-    -- no cell is touched by both, whose name one of them writes at a place that does not clash
-    by_place : (other : Block) (c : Cell) (place : WritePlace c.0 (clashes r ks S T other)) → touches other c.0 ≡ true → touches T c.0 ≡ true
-        → Stands (touched i S s) c → Stands (touched j T t) c → ⊥
-    by_place other c place shared also first second =
+    -- no cell is touched by both, whose name they share
+    by_name : (c : Cell) → shares S T c.0 ≡ true → Stands (touched i S s) c → Stands (touched j T t) c → ⊥
+    by_name c shared first second =
+        let touch = shared_by_both S T c.0 shared in
+        let place : HasPlace (named c.0) (λ k. block_has k S) = touched_place S c.0 touch.0 in
         let z : List ℕ = spelled place.name in
+        let same : z ≡ c.0 = (bytes_eq-Decides (spelled place.name) c.0).0 place.is in
         let demand : is_apart r ks z place.indices S T ≡ true =
-        yes_of (touches other z) (is_apart r ks z place.indices S T) (ap (touches other) place.same ∙ shared) place.other in
-        region_separates S T z place.indices i j s t c first second (sym place.same) r ks a b text.first_leaves text.second_leaves h l
-        (ap (touches T) place.same ∙ also) within demand
+        yes_of (shares S T z) (is_apart r ks z place.indices S T) (ap (shares S T) same ∙ shared) (place.stands (clashes r ks S T) text.no_clash) in
+        region_separates S T z place.indices i j s t c first second (sym same) r ks a b text.first_leaves text.second_leaves h l
+        (ap (touches T) same ∙ touch.1) within demand
 
     second_apart : AllApart (touched j T t) (writes i (before S []) s)
     second_apart =
         of_standing _ (touched j T t) (λ d stands. of_standing _ (writes i (before S []) s) (λ w stands_w e.
         let written : writes_name S w.0.0 ≡ true = at_standing (λ (q : Write). writes_name S q.0.0 ≡ true) (writes i (before S []) s) w (written_names S i s) stands_w in
         let here : Stands (touched j T t) w.0 = subst (λ q. Stands (touched j T t) q) e stands in
-        let shared : touches T w.0.0 ≡ true = at_standing (λ (q : Cell). touches T q.0 ≡ true) (touched j T t) w.0 (touched_names T j t) here in
-        by_place T w.0 (write_place w.0.0 (clashes r ks S T T) S written text.first_clashes) shared shared
+        let also : touches T w.0.0 ≡ true = at_standing (λ (q : Cell). touches T q.0 ≡ true) (touched j T t) w.0 (touched_names T j t) here in
+        by_name w.0 (first_shares (writes_name S w.0.0) (touches T w.0.0) _ written also)
         (stands_right (reads i (before S []) s) (cells_of (writes i (before S []) s)) w.0 (stands_cell (writes i (before S []) s) w stands_w)) here))
 
     first_apart : AllApart (touched i S s) (writes j (before T []) t)
@@ -91,8 +98,8 @@ module _ (S T : Block) (ks : List Name) (r : Region) (a b : List ℤ) (text : Sw
         of_standing _ (touched i S s) (λ d stands. of_standing _ (writes j (before T []) t) (λ w stands_w e.
         let written : writes_name T w.0.0 ≡ true = at_standing (λ (q : Write). writes_name T q.0.0 ≡ true) (writes j (before T []) t) w (written_names T j t) stands_w in
         let here : Stands (touched i S s) w.0 = subst (λ q. Stands (touched i S s) q) e stands in
-        let shared : touches S w.0.0 ≡ true = at_standing (λ (q : Cell). touches S q.0 ≡ true) (touched i S s) w.0 (touched_names S i s) here in
-        by_place S w.0 (write_place w.0.0 (clashes r ks S T S) T written text.second_clashes) shared (or_second (reads_name T w.0.0) _ written) here
+        let also : touches S w.0.0 ≡ true = at_standing (λ (q : Cell). touches S q.0 ≡ true) (touched i S s) w.0 (touched_names S i s) here in
+        by_name w.0 (second_shares (writes_name S w.0.0 && touches T w.0.0) (writes_name T w.0.0) (touches S w.0.0) written also) here
         (stands_right (reads j (before T []) t) (cells_of (writes j (before T []) t)) w.0 (stands_cell (writes j (before T []) t) w stands_w))))
 
   pub runs_apart : RunsApart S T (Counted ks a) (Counted ks b)

@@ -5,6 +5,7 @@ pub mod Exchanging
 pub mod Implying
 pub mod Meeting
 pub mod Members
+pub mod Moving
 pub mod Offsetting
 pub mod Passing
 pub mod Placed

@@ -29,11 +29,11 @@ none_more i test e h = ap (λ m. some_below m test) (add-suc i) ∙ ap₂ (λ a 
     add-suc i = omega arith
 
 -- .. is found
-first_or : (n : ℕ) (test : ℕ → Bool) (b : Bool) → (some_below n test ≡ true → (p : ℕ) × (test p ≡ true)) → test n ≡ b → (b || some_below n test) ≡ true → (p : ℕ) × (test p ≡ true)
-first_or n test true rest is e = (n, is)
-first_or n test false rest is e = rest e
+first_or : (n : ℕ) (test : ℕ → Bool) (b : Bool) → (some_below n test ≡ true → (p : ℕ) × (p < n) × (test p ≡ true)) → test n ≡ b → (b || some_below n test) ≡ true → (p : ℕ) × (p < suc n) × (test p ≡ true)
+first_or n test true rest is e = (n, omega arith, is)
+first_or n test false rest is e = let found = rest e in (found.0, omega arith, found.2)
 
-pub below_found : (n : ℕ) (test : ℕ → Bool) → some_below n test ≡ true → (p : ℕ) × (test p ≡ true)
+pub below_found : (n : ℕ) (test : ℕ → Bool) → some_below n test ≡ true → (p : ℕ) × (p < n) × (test p ≡ true)
 below_found zero test e = absurd (true≢false (sym e))
 below_found (suc n) test e = first_or n test (test n) (below_found n test) refl e
 

@@ -123,13 +123,13 @@ module _ (S T : Block) (z : List ℕ) (is : Exprs) (i j : ℕ) (s t : Store) (c 
       → v ≢ w → has_constant k z is S T ≡ true → ⊥
   constant_separates k v w f g h l differ e =
       let found = below_found (count is) (constant_at k z is S T) e in
-      all_just_separates S T z (spelled k) (count is) found.0 v w i j s t c f g h l first_stands second_stands same (distance (spelled k) (count is) found.0 is) differ found.1
+      all_just_separates S T z (spelled k) (count is) found.0 v w i j s t c f g h l first_stands second_stands same (distance (spelled k) (count is) found.0 is) differ found.2
 
   ordered_separates : (k : Name) (v w : ℤ) → writes_name S (spelled k) ≡ false → writes_name T (spelled k) ≡ false → read s (variable k) ≡ v → read t (variable k) ≡ w
       → touches T z ≡ true → w <ℤ v → has_order k z is S T ≡ true → ⊥
   ordered_separates k v w f g h l shared less e =
       let found = below_found (count is) (order_at k z is S T) e in
-      order_separates S T z (spelled k) (count is) found.0 v w i j s t c f g h l first_stands second_stands same shared less found.1
+      order_separates S T z (spelled k) (count is) found.0 v w i j s t c f g h l first_stands second_stands same shared less found.2
 
   unwritten : (k : Name) (b : Block) (rest : Bool) → (not (writes_name b (spelled k)) && rest) ≡ true → writes_name b (spelled k) ≡ false
   unwritten k b rest e = no_of _ (first_yes _ _ e)

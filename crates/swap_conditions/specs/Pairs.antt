@@ -1,8 +1,7 @@
--- The names of the counters over which two statements swap, and the places at which one of them clashes with the other.
+-- The names of the counters over which two statements swap, and the places that clash.
 use Rattle.std.specs.Prelude.{Bool, List, [], ◌∷◌}
 use Rattle.toy_imp.specs.declared.name.Name.{Name}
 use Rattle.toy_imp.specs.Expr.{Exprs}
-use Rattle.toy_imp.specs.Block.{Block}
 use Rattle.swap_conditions.specs.declared.swapping.Counters.{Counters}
 use Rattle.swap_conditions.specs.declared.swapping.Counters.TheVariants as counters
 use Rattle.swap_conditions.specs.declared.swapping.Swap.{Swap}
@@ -12,6 +11,6 @@ abbrev pub names_of : Counters → List Name
 names_of (counters.One k) = k.now ∷ []
 names_of (counters.Two k l) = k.now ∷ l.now ∷ []
 
--- a place that clashes with the other of the two statements
-abbrev pub clash_of : Swap → Block → Name → Exprs → Bool
-clash_of q other = clashes q.region (names_of q.counters) q.first.now q.second.now other
+-- a place of a name that they share, without what the region demands
+abbrev pub clash_of : Swap → Name → Exprs → Bool
+clash_of q = clashes q.region (names_of q.counters) q.first.now q.second.now

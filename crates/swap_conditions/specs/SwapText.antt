@@ -9,9 +9,9 @@ use Rattle.toy_imp.specs.declared.condition.Region.TheVariants as region
 use Rattle.toy_imp.specs.Cell.{spelled}
 use Rattle.toy_imp.specs.Expr.{Exprs}
 use Rattle.toy_imp.specs.Block.{Block}
-use Rattle.side_conditions.specs.Places.{block_writes, block_asserts}
+use Rattle.side_conditions.specs.Places.{block_asserts}
 use Rattle.side_conditions.specs.Seeking.{reads_name, writes_name}
-use Rattle.swap_conditions.specs.Standing.{every_place}
+use Rattle.swap_conditions.specs.Standing.{block_has, every_place}
 use Rattle.swap_conditions.specs.Placing.{count, distance, is_just, not_above}
 
 -- whether a test holds of a number below n
@@ -55,9 +55,13 @@ is_apart _ _ z is s t = false
 abbrev pub touches : Block → List ℕ → Bool
 touches b z = reads_name b z || writes_name b z
 
--- a place whose name the other block touches, without what the region demands
-abbrev pub clashes : Region → List Name → Block → Block → Block → Name → Exprs → Bool
-clashes r ks s t other x is = touches other (spelled x) && not (is_apart r ks (spelled x) is s t)
+-- whether one of two blocks writes a name and the other reads or writes it
+abbrev pub shares : Block → Block → List ℕ → Bool
+shares s t z = (writes_name s z && touches t z) || (writes_name t z && touches s z)
+
+-- a place of such a name, without what the region demands
+abbrev pub clashes : Region → List Name → Block → Block → Name → Exprs → Bool
+clashes r ks s t x is = shares s t (spelled x) && not (is_apart r ks (spelled x) is s t)
 
 -- one counter, or two that differ
 abbrev pub are_counters : List Name → Bool
@@ -70,8 +74,8 @@ abbrev pub leaves : List Name → Block → Bool
 leaves [] b = true
 leaves (k ∷ ks) b = not (writes_name b (spelled k)) && leaves ks b
 
+-- a name that they share stands in both, so the places in the first are all that is asked of
 abbrev pub swaps_by_text : Block → Block → List Name → Region → Bool
 swaps_by_text s t ks r =
     (not (block_asserts s) && not (block_asserts t))
-    && ((are_counters ks && (leaves ks s && leaves ks t))
-    && (not (block_writes (clashes r ks s t t) s) && not (block_writes (clashes r ks s t s) t)))
+    && ((are_counters ks && (leaves ks s && leaves ks t)) && not (block_has (clashes r ks s t) s))

@@ -7,6 +7,7 @@ mod clashing;
 mod demands;
 mod holding;
 pub mod laws;
+mod sizes;
 mod spans;
 mod swapping;
 mod walks;

@@ -1,11 +1,13 @@
 //! `swaps` by text: `specs/SwapText.antt` says when two statements swap over one or two counters, region by region.
-//! The time is at worst the square of the blocks' sizes together; nothing takes memory.
+//! The time is at worst the product of the statements' sizes; nothing takes memory.
 
 ghost use Rattle.std.specs.Prelude.{◌≡◌};
-ghost use Rattle.swap_conditions.specs.Pairs.{names_of};
+ghost use Rattle.swap_conditions.specs.Pairs.{clash_of, names_of};
+ghost use Rattle.swap_conditions.specs.Standing.{block_has};
 ghost use Rattle.swap_conditions.specs.SwapText as spec;
 
 use crate::clashing::{block_clashes, writes_name};
+use crate::sizes::block_size;
 use crate::spans::bytes_of;
 use side_conditions::block_asserts;
 use toy_imp::{Block, Name, Region};
@@ -27,7 +29,7 @@ pub struct Swap<'a> {
 }
 
 /// Whether two statements swap by text: no `assert` stands in either, the counters differ, neither writes one, and
-/// the region's demand is met at each write of either whose name the other reads or writes.
+/// the region's demand is met at each place of a name that one writes and the other reads or writes.
 pub fn swaps_by_text(q: Swap) -> bool
     ensures { let p = q.entry in
         result ≡ spec.swaps_by_text p.first.now p.second.now (names_of p.counters) p.region }
@@ -37,8 +39,19 @@ pub fn swaps_by_text(q: Swap) -> bool
         && differ(q.counters)
         && leaves(q.counters, q.first)
         && leaves(q.counters, q.second)
-        && !block_clashes(q, q.second, q.first)
-        && !block_clashes(q, q.first, q.second)
+        && !clash(q)
+}
+
+/// Whether a place clashes; those of the smaller statement tell.
+#[tactic(auto, using(crate::proofs::Moving::either_block))]
+fn clash(q: Swap) -> bool
+    ensures { result ≡ block_has (clash_of q.entry) q.entry.first.now }
+{
+    if block_size(q.first) <= block_size(q.second) {
+        block_clashes(q, q.first)
+    } else {
+        block_clashes(q, q.second)
+    }
 }
 
 /// Whether the counters have different bytes.
