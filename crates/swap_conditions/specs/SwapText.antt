@@ -1,7 +1,7 @@
 -- `swaps` by text, for two blocks S and T and the names of one or two counters.
--- A name clashes where one block writes it and the other reads or writes it. All places of such a name, in both blocks, have to
--- have as many indices, and at some position `k + c` for a counter k: with one c where the numbers of k differ in the region, and
--- where S's is the greater with no c in S below one in T. So S and T touch different cells of it.
+-- They share a name where one writes it and the other reads or writes it. All places of such a name, in both blocks, have to have
+-- as many indices, and at some position `k + c` for a counter k: with one c where the numbers of k differ in the region, and where
+-- S's is the greater with no c in S below one in T. So S and T touch different cells of it. A place of it clashes otherwise.
 use Rattle.std.specs.Prelude.{ℕ, zero, suc, ℤ, Bool, true, false, not, ◌&&◌, ◌||◌, List, [], ◌∷◌, Option, Some, None, bytes_eq}
 use Rattle.toy_imp.specs.declared.name.Name.{Name}
 use Rattle.toy_imp.specs.declared.condition.Region.{Region}
