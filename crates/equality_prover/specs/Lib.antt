@@ -1,0 +1,5 @@
+pub mod Closure
+pub mod Congruence
+pub mod Growth
+pub mod Places
+pub mod Terms
