@@ -4,16 +4,16 @@
 ghost use Rattle.std.specs.Prelude.{◌≡◌, [], ◌∷◌, ◌++◌};
 ghost use Rattle.std.specs.List.{list_any};
 ghost use Rattle.rule_terms.specs.TermView.{terms_of};
-ghost use Rattle.rule_terms.specs.declared.obligation.Atom.TheVariants.{SameName, SameValue};
+ghost use Rattle.rule_terms.specs.declared.obligation.Atom.TheVariants.{SameValue};
 ghost use Rattle.term_meaning.specs.Indices.{count};
-ghost use Rattle.law_clauses.specs.Signed.{plus, minus};
+ghost use Rattle.law_clauses.specs.Signed.{plus};
 ghost use Rattle.law_clauses.specs.WriteLaws.{unequal};
 ghost use Rattle.escape_marks.specs.Failing.{FindsFailing};
 ghost use Rattle.escape_marks.specs.LawsHold.{is_kept};
 ghost use Rattle.escape_laws.specs.ReadBack.{back_kept};
 
-use crate::kept::{does_not_end, equal, unequal};
-use escape_marks::{Escape, ValueMark, names_agree};
+use crate::kept::{does_not_end, equal, other_name, unequal};
+use escape_marks::{Escape, ValueMark};
 use law_clauses::count;
 use rule_terms::{Place, StoreNode, ValueNode, ValueTerm};
 use toy_imp::Kind;
@@ -30,14 +30,6 @@ fn some_unequal(params: &[Kind], e: &Escape, js: &[ValueTerm], is: &[ValueTerm])
         }
     }
     false
-}
-
-// `- name x y`
-#[tactic(auto, unfolding(escape_marks::specs::LawsHold::is_kept, escape_marks::specs::LawsHold::is_marked, escape_marks::specs::Marks::atom_true))]
-fn other_name(params: &[Kind], e: &Escape, x: u32, y: u32) -> bool
-    ensures { result ≡ is_kept params.now e.now (minus (SameName x y)) }
-{
-    !names_agree(params, e, x, y)
 }
 
 // An index is not the other one beside it, or w = v.

@@ -14,7 +14,8 @@ mod reads;
 
 pub use back_law::broken_read_back;
 pub use end_laws::broken_end;
+pub use kept::{does_not_end, ends, equal, other_name, same_store, unequal};
 pub use number_laws::broken_sum;
 pub use pair_laws::{broken_exchange, sides_end, unlike_halts};
 pub use read_laws::broken_read;
-pub use reads::read_mark;
+pub use reads::{equals_read, read_mark};

@@ -2,30 +2,14 @@
 //! `specs/MarkedLaws.antt` has their clauses at a value term.
 
 ghost use Rattle.std.specs.Prelude.{◌≡◌};
-ghost use Rattle.rule_terms.specs.Term.{get};
-ghost use Rattle.rule_terms.specs.declared.obligation.Atom.TheVariants.{SameValue};
-ghost use Rattle.law_clauses.specs.Signed.{plus};
 ghost use Rattle.escape_marks.specs.Failing.{FindsFailing};
-ghost use Rattle.escape_marks.specs.LawsHold.{is_kept};
 ghost use Rattle.escape_laws.specs.MarkedLaws.{reads_kept};
 
-use crate::reads::read_mark;
-use escape_marks::{Escape, ValueMark, names_agree, value_mark};
+use crate::reads::equals_read;
+use escape_marks::{Escape, ValueMark, names_agree};
 use law_clauses::count;
-use rule_terms::{Place, StoreNode, StoreTerm, ValueNode, ValueTerm};
+use rule_terms::{StoreNode, ValueNode, ValueTerm};
 use toy_imp::Kind;
-
-// `+ value v (get q s)`
-#[tactic(auto, unfolding(escape_marks::specs::LawsHold::is_kept, escape_marks::specs::LawsHold::is_marked, escape_marks::specs::Marks::atom_true))]
-fn equals_read(params: &[Kind], e: &Escape, v: &ValueTerm, q: &Place, s: &StoreTerm) -> bool
-    ensures { result ≡ is_kept params.now e.now (plus (SameValue v.now (get q.now.name q.now.indices s.now))) }
-{
-    let marks = e.values.as_slice();
-    match (value_mark(marks, v), read_mark(marks, q, s)) {
-        (Some(m), Some(n)) => m.number == n.number,
-        _ => true,
-    }
-}
 
 #[tactic(auto, using(law_clauses::proofs::Same::or_false), unfolding(crate::specs::MarkedLaws::reads_kept, escape_marks::specs::LawsHold::is_kept, escape_marks::specs::LawsHold::is_marked, escape_marks::specs::Marks::atom_true))]
 fn reads_kept(params: &[Kind], e: &Escape, v: &ValueTerm) -> bool
