@@ -1,0 +1,4 @@
+pub mod BehindShapes
+pub mod ConditionsKept
+pub mod Listings
+pub mod Names

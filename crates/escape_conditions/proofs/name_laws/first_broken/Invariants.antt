@@ -1,0 +1,8 @@
+-- All that was looked at passes.
+use Rattle.std.proofs.Common.{◌≡◌, take, true}
+use Rattle.std.specs.List.{list_all}
+use Rattle.escape_conditions.specs.MarkedConditions.{name_kept}
+use Rattle.escape_conditions.proofs.name_laws.first_broken.Given as goal
+
+abbrev pub invariant-loop-k : goal.invariant-loop-k
+invariant-loop-k l = list_all (name_kept l.ob l.e) (take l.k l.conditions) ≡ true

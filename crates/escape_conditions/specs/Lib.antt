@@ -1,0 +1,3 @@
+pub mod ConditionsPass
+pub mod MarkedConditions
+pub mod Shapes
