@@ -26,15 +26,15 @@ use Rattle.escape_laws.proofs.KeptLaws.{value_marked, holds, kept_by}
 pub one_behind : (params : List Kind) (e : Escape) (xs : List Signed) (y : Signed) → list_any (is_kept params e) (xs ++ y ∷ []) ≡ (list_any (is_kept params e) xs || is_kept params e y)
 one_behind params e xs y = list_any-append (is_kept params e) xs (y ∷ []) ∙ ap (λ b. list_any (is_kept params e) xs || b) (or_false (is_kept params e y))
 
-last_marked : (e : Escape) (xs : List Signed) (y : Signed) → list_all (signed_marked e) (xs ++ y ∷ []) ≡ true → signed_marked e y ≡ true
+pub last_marked : (e : Escape) (xs : List Signed) (y : Signed) → list_all (signed_marked e) (xs ++ y ∷ []) ≡ true → signed_marked e y ≡ true
 last_marked e [] y h = (and_parts (signed_marked e y) true h).0
 last_marked e (x ∷ xs) y h = last_marked e xs y (and_parts (signed_marked e x) (list_all (signed_marked e) (xs ++ y ∷ [])) h).1
 
-behind : (c k : Bool) → (not c || k) ≡ true → c ≡ true → k ≡ true
+pub behind : (c k : Bool) → (not c || k) ≡ true → c ≡ true → k ≡ true
 behind true k h is = h
 behind false k h is = absurd (true≢false (sym is))
 
-before : (c k : Bool) → (c ≡ true → k ≡ true) → (not c || k) ≡ true
+pub before : (c k : Bool) → (c ≡ true → k ≡ true) → (not c || k) ≡ true
 before true k f = f refl
 before false k f = refl
 

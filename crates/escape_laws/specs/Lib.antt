@@ -1,5 +1,7 @@
+pub mod IndexLaw
 pub mod KeptLaws
 pub mod KeptPairs
 pub mod MarkedLaws
 pub mod PairLaws
 pub mod ReadBack
+pub mod WrittenLaw

@@ -1,9 +1,12 @@
 //! What the tests at terms say of the laws, each statement the contract of a function that does
-//! nothing. The statements are in `specs/KeptLaws.antt`, `KeptPairs.antt` and `ReadBack.antt`.
+//! nothing. The statements are in `specs/KeptLaws.antt`, `KeptPairs.antt`, `ReadBack.antt`,
+//! `IndexLaw.antt` and `WrittenLaw.antt`.
 
 ghost use Rattle.escape_laws.specs.KeptLaws.{EndLawsHold, ReadLawsHold, SumLawsHold, LawsPass};
 ghost use Rattle.escape_laws.specs.KeptPairs.{PairLawsHold, PairLawsPass};
 ghost use Rattle.escape_laws.specs.ReadBack.{BackLawHolds, BackLawPasses};
+ghost use Rattle.escape_laws.specs.IndexLaw.{IndexLawHolds, IndexLawPasses};
+ghost use Rattle.escape_laws.specs.WrittenLaw.{WrittenLawHolds, WrittenLawPasses};
 
 /// Where `broken_end` finds nothing, each clause of laws 7 to 9 all of whose terms have marks has a
 /// true literal.
@@ -45,4 +48,24 @@ pub fn back_law_holds()
 /// .. and where all laws hold, it finds nothing.
 pub fn back_law_passes()
     ensures { BackLawPasses }
+{}
+
+/// Where `broken_index` finds nothing: the same of law 3.
+pub fn index_law_holds()
+    ensures { IndexLawHolds }
+{}
+
+/// .. and where all laws hold, it finds nothing.
+pub fn index_law_passes()
+    ensures { IndexLawPasses }
+{}
+
+/// Where `unlike_written` finds nothing: the same of law 5.
+pub fn written_law_holds()
+    ensures { WrittenLawHolds }
+{}
+
+/// .. and where all laws hold, it finds nothing.
+pub fn written_law_passes()
+    ensures { WrittenLawPasses }
 {}
