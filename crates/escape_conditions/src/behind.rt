@@ -27,8 +27,9 @@ fn writes_behind(t: &StoreTerm, k: u32, s: &StoreTerm, p: &Place, v: &ValueTerm)
     }
 }
 
+/// Whether the term is the write of v at p behind the run of k from s.
 #[tactic(auto, using(crate::proofs::BehindShapes::write_same))]
-fn is_write(k: u32, s: &StoreTerm, p: &Place, v: &ValueTerm, t: &StoreTerm) -> bool
+pub fn is_write(k: u32, s: &StoreTerm, p: &Place, v: &ValueTerm, t: &StoreTerm) -> bool
     ensures { result ≡ store_same (put_at (run k s.now) p.now v.now) t.now }
 {
     writes_behind(t, k, s, p, v)
@@ -83,8 +84,9 @@ fn runs_behind(t: &StoreTerm, j: u32, k: u32, s: &StoreTerm) -> bool
     }
 }
 
+/// Whether the term is the run of j behind the run of k from s.
 #[tactic(auto, using(crate::proofs::BehindShapes::run_same))]
-fn is_second_run(j: u32, k: u32, s: &StoreTerm, t: &StoreTerm) -> bool
+pub fn is_second_run(j: u32, k: u32, s: &StoreTerm, t: &StoreTerm) -> bool
     ensures { result ≡ store_same (run j (run k s.now)) t.now }
 {
     runs_behind(t, j, k, s)

@@ -14,7 +14,9 @@ mod run_laws;
 mod test_laws;
 mod value_laws;
 
+pub use behind::{is_second_run, is_write};
 pub use constant_laws::unlike_constant;
+pub use literals::expr_mark;
 pub use name_laws::broken_distinct;
 pub use read_laws::broken_stay;
 pub use run_laws::broken_run;

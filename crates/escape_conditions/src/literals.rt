@@ -44,9 +44,10 @@ fn is_value(i: u32, s: &StoreTerm, w: &ValueTerm) -> bool
     is_ev(w, i, s)
 }
 
-// The first mark of the value of an expression at a store. `None` exactly where it has none.
+/// The first mark of the value of an expression at a store. `None` exactly where it has none. It walks
+/// over the marks.
 #[tactic(auto, unfolding(escape_marks::specs::Marks::value_mark))]
-fn expr_mark<'a>(marks: &'a [ValueMark], i: u32, s: &StoreTerm) -> Option<&'a ValueMark>
+pub fn expr_mark<'a>(marks: &'a [ValueMark], i: u32, s: &StoreTerm) -> Option<&'a ValueMark>
     ensures { option_map (λ m. m.now) result ≡ value_mark marks.now (ev i s.now) }
 {
     for m in marks {
