@@ -1,3 +1,4 @@
+pub mod AllLaws
 pub mod BehindShapes
 pub mod ConditionsKept
 pub mod Listings

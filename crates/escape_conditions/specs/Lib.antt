@@ -1,3 +1,4 @@
 pub mod ConditionsPass
+pub mod LawsPass
 pub mod MarkedConditions
 pub mod Shapes

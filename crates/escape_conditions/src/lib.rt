@@ -3,6 +3,7 @@
 //! conditions. `specs/MarkedConditions.antt` says which clauses speak of a term.
 #![tactic(auto)]
 
+mod all_laws;
 mod apart;
 mod behind;
 mod constant_laws;
@@ -14,6 +15,7 @@ mod run_laws;
 mod test_laws;
 mod value_laws;
 
+pub use all_laws::laws_hold;
 pub use behind::{is_second_run, is_write};
 pub use constant_laws::unlike_constant;
 pub use literals::expr_mark;
