@@ -1,0 +1,3 @@
+pub mod ShapeTerms
+pub mod UniverseMarks
+pub mod Walking

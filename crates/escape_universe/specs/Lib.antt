@@ -1,0 +1,4 @@
+pub mod Covered
+pub mod MarksUniverse
+pub mod Shapes
+pub mod Sought
