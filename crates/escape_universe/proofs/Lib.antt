@@ -1,3 +1,4 @@
+pub mod NamedLiterals
 pub mod ShapeTerms
 pub mod UniverseMarks
 pub mod Walking

@@ -1,4 +1,5 @@
 pub mod Covered
 pub mod MarksUniverse
+pub mod Named
 pub mod Shapes
 pub mod Sought
