@@ -1,0 +1,2 @@
+pub mod SummedValues
+pub mod Tests

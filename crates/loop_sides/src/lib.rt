@@ -1,0 +1,9 @@
+//! The sides of rules of loops: nests of loops whose bounds are affine forms in counters and symbols, the values of
+//! the names that are set round a statement, and the maps between the counters of two sides. `specs/Summed.antt`
+//! says what the form of an expression is.
+#![tactic(auto)]
+
+mod forms;
+pub mod laws;
+
+pub use forms::{affine, summed};
