@@ -1,3 +1,4 @@
 pub mod Laws
+pub mod Sides
 pub mod Small
 pub mod Summed

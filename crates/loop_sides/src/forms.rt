@@ -9,6 +9,7 @@ ghost use Rattle.affine_forms.specs.Form.{counter_form, symbol_form, IsSmall, Ha
 ghost use Rattle.loop_sides.specs.Small.{IsAffine};
 ghost use Rattle.loop_sides.specs.Summed as spec;
 
+use crate::kinds::is_symbol;
 use affine_forms::Form;
 use toy_imp::{Expr, ExprNode, Kind, Name, Param};
 
@@ -220,16 +221,6 @@ fn symbol_place(params: &[Param], k: u32) -> Option<usize>
     }
     let place = symbols_among(&params[..k as usize]);
     if place < 8 { Some(place) } else { None }
-}
-
-fn is_symbol(params: &[Param], k: u32) -> bool
-    ensures is { result ≡ has_kind params.now kind.Expr k }
-    ensures within { IsTrue result → k < length params.now }
-{
-    match params.get(k as usize) {
-        Some(p) => p.kind == Kind::Expr,
-        None => false,
-    }
 }
 
 /// How many of the parameters are symbols.

@@ -4,6 +4,12 @@
 #![tactic(auto)]
 
 mod forms;
+mod kinds;
 pub mod laws;
+mod reading;
+mod shape;
 
 pub use forms::{affine, summed};
+pub use kinds::{is_name, is_statement, is_symbol};
+pub use reading::side_of;
+pub use shape::{Let, Lets, Loop, Loops, Nest, Piece, Pieces, Side};
