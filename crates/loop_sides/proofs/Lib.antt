@@ -1,3 +1,4 @@
+pub mod Belows
 pub mod Shapes
 pub mod SummedValues
 pub mod Tests

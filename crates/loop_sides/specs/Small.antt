@@ -13,6 +13,8 @@ use Rattle.loop_sides.specs.declared.shape.Pieces.TheVariants as pieces
 use Rattle.loop_sides.specs.declared.shape.Nest.{Nest}
 use Rattle.loop_sides.specs.declared.shape.Side.{Side}
 use Rattle.loop_sides.specs.declared.shape.Side.TheVariants as side
+use Rattle.loop_sides.specs.declared.spots.Spot.{Spot}
+use Rattle.loop_sides.specs.declared.spots.Sides.{Sides}
 
 -- all magnitudes are below 2^31, and the coefficients of the counters are -1, 0 or 1
 pub record IsAffine (f : Form) : Type 0 where
@@ -47,3 +49,10 @@ IsAffineNest n = IsAffineLoops n.loops × IsAffinePieces n.pieces
 abbrev pub IsAffineSide : Side → Type 0
 IsAffineSide (side.One n) = IsAffineNest n
 IsAffineSide (side.Two m n) = IsAffineNest m × IsAffineNest n
+
+-- .. of the `let`s round a statement, and of both sides
+abbrev pub IsAffineSpot : Spot → Type 0
+IsAffineSpot s = IsAffineLets s.lets
+
+abbrev pub AreAffineSides : Sides → Type 0
+AreAffineSides s = IsAffineSide s.left × IsAffineSide s.right

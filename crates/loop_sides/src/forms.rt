@@ -216,7 +216,7 @@ fn symbol_place(params: &[Param], k: u32) -> Option<usize>
     ensures is { result ≡ spec.symbol_place params.now k }
     ensures within { IfSome result (λ j. j < 8) }
 {
-    if !is_symbol(params, k) {
+    if !is_symbol(params, k as usize) {
         return None;
     }
     let place = symbols_among(&params[..k as usize]);

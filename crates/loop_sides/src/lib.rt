@@ -7,9 +7,15 @@ mod forms;
 mod kinds;
 pub mod laws;
 mod reading;
+mod required;
+mod setting;
 mod shape;
+mod spots;
 
 pub use forms::{affine, summed};
 pub use kinds::{is_name, is_statement, is_symbol};
 pub use reading::side_of;
+pub use required::{Wanted, lacks_condition};
+pub use setting::{block_holds, block_sets, sets_round};
 pub use shape::{Let, Lets, Loop, Loops, Nest, Piece, Pieces, Side};
+pub use spots::{Sides, Spot, sides_of, spot_of, value_at};

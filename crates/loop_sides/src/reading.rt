@@ -137,7 +137,13 @@ fn name_number(params: &[Param], x: &Name) -> Option<u32>
 {
     match x {
         Name::Own(_) => None,
-        Name::Par(k) => { if is_name(params, *k) { Some(*k) } else { None } }
+        Name::Par(k) => {
+            if is_name(params, *k as usize) {
+                Some(*k)
+            } else {
+                None
+            }
+        }
     }
 }
 
@@ -231,7 +237,7 @@ fn inner_piece(params: &[Param], lets: Lets, s: &Stmt) -> Option<Piece>
 {
     match &s.node {
         StmtNode::Par(k) => {
-            if is_statement(params, *k) {
+            if is_statement(params, *k as usize) {
                 Some(Piece {
                     lets,
                     statement: *k,
