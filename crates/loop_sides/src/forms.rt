@@ -74,7 +74,8 @@ fn is_small(form: &Form) -> bool
     form.is_small()
 }
 
-fn has_units(form: &Form) -> bool
+/// Whether the coefficients of the counters are -1, 0 or 1.
+pub fn has_units(form: &Form) -> bool
     ensures is { result ≡ spec.has_units form.now }
     ensures told { IsTrue result → HasUnitCounters form.now }
 {

@@ -1,6 +1,6 @@
 //! The sides of rules of loops: nests of loops whose bounds are affine forms in counters and symbols, the values of
-//! the names that are set round a statement, and the maps between the counters of two sides. `specs/Summed.antt`
-//! says what the form of an expression is.
+//! the names that are set round a statement, and the conditions that such a rule has to have. `specs/Summed.antt`
+//! says what the form of an expression is, and `specs/Sides.antt` what the shape of a side is.
 #![tactic(auto)]
 
 mod forms;
@@ -12,7 +12,7 @@ mod setting;
 mod shape;
 mod spots;
 
-pub use forms::{affine, summed};
+pub use forms::{affine, has_units, summed};
 pub use kinds::{is_name, is_statement, is_symbol};
 pub use reading::side_of;
 pub use required::{Wanted, lacks_condition};

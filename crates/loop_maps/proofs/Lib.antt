@@ -1,0 +1,4 @@
+pub mod Fits
+pub mod Firsts
+pub mod Undoing
+pub mod Within

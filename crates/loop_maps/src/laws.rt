@@ -1,0 +1,8 @@
+//! The laws of maps, each the contract of a function that does nothing. The statements are in `specs/Laws.antt`.
+
+ghost use Rattle.loop_maps.specs.Laws.{MapsUndo};
+
+/// Through a map and its inverse each counter is itself again, on both sides.
+pub fn maps_undo()
+    ensures { MapsUndo }
+{}
