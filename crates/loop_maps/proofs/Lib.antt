@@ -1,3 +1,4 @@
+pub mod Agreeing
 pub mod Fits
 pub mod Firsts
 pub mod Undoing

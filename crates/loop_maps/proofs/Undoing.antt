@@ -106,7 +106,7 @@ fit_tells n left right (Some there) (Some back) m four other is =
     subst (λ (k : Maps). Undoes d k.back k.there × Undoes d k.there k.back) told.1.1
     ((undoes_decided d back there (omega (arith, few, back_long))).0 told.0, (undoes_decided d there back (omega (arith, few, there_long))).0 told.1.0)
 
-asked : (b : Bool) (o : Option Maps) (m : Maps) → (if b then o else None) ≡ Some m → o ≡ Some m
+pub asked : (b : Bool) (o : Option Maps) (m : Maps) → (if b then o else None) ≡ Some m → o ≡ Some m
 asked true o m is = is
 asked false o m is = grind arith
 

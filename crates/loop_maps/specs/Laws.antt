@@ -1,5 +1,5 @@
 -- What the map of a statement and its inverse are good for.
-use Rattle.std.specs.Prelude.{◌≡◌, ℕ, Option, Some}
+use Rattle.std.specs.Prelude.{◌≡◌, ◌<◌, ℕ, Option, Some}
 use Rattle.affine_forms.specs.declared.form.Form.{Form}
 use Rattle.affine_forms.specs.Form.{substitute}
 use Rattle.affine_forms.specs.Maps.{Undoes}
@@ -12,3 +12,8 @@ use Rattle.loop_maps.specs.Maps.{loop_count, maps_between}
 abbrev pub MapsUndo : Type 0
 MapsUndo = (n : ℕ) (left right : Spot) (m : Maps) → maps_between n left right ≡ Some m →
     Undoes (loop_count left.loops) m.back m.there × Undoes (loop_count left.loops) m.there m.back
+
+-- a name that is set on both sides has at the right counters that the map gives the value that it has at the left ones
+abbrev pub NamesAgree : Type 0
+NamesAgree = (n : ℕ) (left right : Spot) (m : Maps) (x : ℕ) (f v : Form) → maps_between n left right ≡ Some m → x < n →
+    value_at right x ≡ Some f → value_at left x ≡ Some v → substitute f m.there ≡ v
