@@ -12,7 +12,7 @@ use Rattle.toy_imp.specs.Faults.{is_simulate, is_swaps, simulates_scopes, has_sc
 use Rattle.loop_sides.specs.Required.{lacks_condition}
 use Rattle.loop_sides.specs.Spots.{sides_of}
 use Rattle.loop_faults.specs.Laws.{SimulateAsksNoMore}
-use Rattle.loop_faults.specs.LoopFaults.{is_permute, is_chain, lists_wrongly, names_unset, swaps_count, has_wrong_swaps, has_other_sides, lacks_required, lacks_map, some_mapless, first_loop_fault, merged, first_fault}
+use Rattle.loop_faults.specs.LoopFaults.{is_permute, is_chain, lists_wrongly, names_unset, swaps_count, has_wrong_swaps, some_mapless, first_loop_fault, merged}
 
 -- an item by its number
 abbrev item : ℕ → Option ℕ
