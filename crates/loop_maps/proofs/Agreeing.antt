@@ -8,7 +8,7 @@ use Rattle.loop_sides.specs.Below.{all_below}
 use Rattle.loop_sides.specs.Spots.{value_at}
 use Rattle.loop_maps.specs.declared.maps.Maps.{Maps}
 use Rattle.loop_maps.specs.Laws.{NamesAgree}
-use Rattle.loop_maps.specs.Maps.{same_form, one_value, agrees, have_units, undoes, map_of, loop_count, if_fit, maps_between}
+use Rattle.loop_maps.specs.Maps.{one_value, agrees, have_units, undoes, map_of, loop_count, if_fit, maps_between}
 use Rattle.loop_maps.proofs.Fits.{same_decided}
 use Rattle.loop_maps.proofs.Undoing.{asked}
 

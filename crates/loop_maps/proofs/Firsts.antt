@@ -1,7 +1,7 @@
 -- The first number below another that gives something, as a search finds it.
-use Rattle.std.specs.Prelude.{◌≡◌, ◌<◌, ◌≤◌, ℕ, zero, suc, Bool, true, false, Option, None, Some, is_some, refl}
+use Rattle.std.specs.Prelude.{◌≡◌, ◌<◌, ℕ, zero, suc, Bool, true, false, Option, None, Some, is_some, refl}
 use Rattle.std.specs.Option.{option_or}
-use Rattle.std.proofs.Common.{arith, ◌∙◌, sym, ap, ltb-true, ltb-false, subst}
+use Rattle.std.proofs.Common.{arith, ◌∙◌, sym, ap, ltb-true, ltb-false}
 use Rattle.std.specs.Prelude.{nat_lt}
 use Rattle.loop_sides.specs.Below.{first_below}
 

@@ -1,23 +1,17 @@
 -- What the tests of maps answer: each is true exactly where the fact holds.
-use Rattle.std.specs.Prelude.{◌≡◌, ◌<◌, ◌≤◌, ℕ, zero, suc, pos, List, [], ◌∷◌, length, Bool, true, false, ◌&&◌, Decides, All, Option, None, Some, slice_index_or, nat_lt, refl}
-use Rattle.std.specs.Int.RustNames.{unsigned_abs}
+use Rattle.std.specs.Prelude.{◌≡◌, ◌<◌, ◌≤◌, ℕ, zero, suc, List, length, Bool, true, false, ◌&&◌, Decides, All, slice_index_or, nat_lt, refl}
 use Rattle.std.specs.Ordering.{int_eq}
 use Rattle.std.specs.Cmp.Lexicographic.{pointwise}
 use Rattle.std.specs.Cmp.Rules.{signed_items}
-use Rattle.std.specs.List.{list_all}
-use Rattle.std.proofs.Common.{◌∙◌, ap, sym, arith, subst, ltb-true, ltb-false}
+use Rattle.std.proofs.Common.{◌∙◌, ap, arith, subst, ltb-true, ltb-false}
 use Rattle.std.proofs.lemmas.Bool.Decides.{same_from_decides, Decides-and, Decides-by_and, Decides-int_eq}
 use Rattle.std.proofs.lemmas.List.{get_or_default}
 use Rattle.affine_forms.specs.declared.form.Form.{Form}
-use Rattle.affine_forms.specs.Form.{HasUnitCounters, IsAtMost, counter_form, substitute}
+use Rattle.affine_forms.specs.Form.{HasUnitCounters, counter_form, substitute}
 use Rattle.affine_forms.specs.Maps.{Undoes}
-use Rattle.loop_sides.specs.Below.{all_below}
-use Rattle.loop_sides.specs.Summed.{has_units, are_at_most}
+use Rattle.loop_sides.specs.Summed.{has_units}
 use Rattle.loop_sides.proofs.Tests.{at_most_decided}
-use Rattle.loop_sides.specs.declared.spots.Spot.{Spot}
-use Rattle.loop_maps.specs.declared.maps.Maps.{Maps}
-use Rattle.loop_maps.specs.Laws.{MapsUndo}
-use Rattle.loop_maps.specs.Maps.{no_form, padded, same_form, is_itself, undoes, have_units}
+use Rattle.loop_maps.specs.Maps.{no_form, same_form, is_itself, undoes, have_units}
 
 -- ---- equality of forms
 abbrev SameParts : Form → Form → Type 0

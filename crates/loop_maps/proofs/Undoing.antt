@@ -11,7 +11,7 @@ use Rattle.loop_sides.specs.Below.{first_below}
 use Rattle.loop_sides.specs.Spots.{value_at}
 use Rattle.loop_maps.specs.declared.maps.Maps.{Maps}
 use Rattle.loop_maps.specs.Laws.{MapsUndo}
-use Rattle.loop_maps.specs.Maps.{no_form, padded, alone, paired, by_value, by_values, by_names, by_first, map_round, map_of, undoes, fit, have_units, loop_count, if_fit, maps_between}
+use Rattle.loop_maps.specs.Maps.{no_form, padded, alone, paired, by_value, by_values, by_names, map_round, map_of, undoes, have_units, loop_count, if_fit, maps_between}
 use Rattle.loop_maps.proofs.Fits.{undoes_decided}
 
 -- ---- a map has four forms

@@ -1,9 +1,9 @@
 -- How large the forms of a map are at most, which is solved from values of a rule.
-use Rattle.std.specs.Prelude.{◌≡◌, ◌≤◌, ◌<◌, ◌+◌, ◌^◌, ℕ, zero, suc, ℤ, pos, negsuc, neg_ℤ, List, [], ◌∷◌, Bool, true, false, Option, None, Some, IfSome, All, length, nat_eq, slice_index_or, if◌then◌else◌, refl}
+use Rattle.std.specs.Prelude.{◌≡◌, ◌+◌, ◌^◌, ℕ, zero, suc, ℤ, pos, negsuc, neg_ℤ, List, [], ◌∷◌, Bool, true, false, None, Some, IfSome, All, slice_index_or, if◌then◌else◌, refl}
 use Rattle.std.specs.Int.RustNames.{unsigned_abs}
 use Rattle.std.proofs.Common.{arith, eqb-true}
 use Rattle.affine_forms.specs.declared.form.Form.{Form}
-use Rattle.affine_forms.specs.Form.{IsAtMost, IsWithin, IsSmall, HasUnitCounters, plus_multiple, minus, scaled, without_counters}
+use Rattle.affine_forms.specs.Form.{IsAtMost, IsWithin, plus_multiple, scaled, without_counters}
 use Rattle.affine_forms.specs.Maps.{coefficient, is_unit, counter_part, solved_one, determinant, cross, solved_two}
 use Rattle.affine_forms.proofs.Magnitudes.{products_within, sum_within, without_within, wider, scaled_within, negative_at_most}
 use Rattle.loop_sides.specs.Small.{IsAffine}

@@ -1,5 +1,5 @@
 -- What the map of a statement and its inverse are good for.
-use Rattle.std.specs.Prelude.{◌≡◌, ◌<◌, ℕ, Option, Some}
+use Rattle.std.specs.Prelude.{◌≡◌, ◌<◌, ℕ, Some}
 use Rattle.affine_forms.specs.declared.form.Form.{Form}
 use Rattle.affine_forms.specs.Form.{substitute}
 use Rattle.affine_forms.specs.Maps.{Undoes}

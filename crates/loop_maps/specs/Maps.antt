@@ -1,7 +1,7 @@
 -- The map of a statement: the counters round it on one side by those on the other, solved from the values of names that are set
 -- round it on both sides; and the inverse, the same with the sides exchanged. A map has four forms, of which a nest of fewer loops
 -- uses the first.
-use Rattle.std.specs.Prelude.{ℕ, Bool, true, false, ◌&&◌, ◌==◌, nat_lt, pos, List, [], ◌∷◌, Option, None, Some, slice_index_or, if◌then◌else◌}
+use Rattle.std.specs.Prelude.{ℕ, Bool, true, ◌&&◌, ◌==◌, nat_lt, pos, List, [], ◌∷◌, Option, None, Some, slice_index_or, if◌then◌else◌}
 use Rattle.std.specs.List.{list_all}
 use Rattle.std.specs.Ordering.{int_eq}
 use Rattle.std.specs.Cmp.Lexicographic.{pointwise}
