@@ -1,5 +1,5 @@
 -- A number below another that passes a test, as a search over the numbers finds it.
-use Rattle.std.specs.Prelude.{◌≡◌, ◌<◌, ℕ, zero, suc, Bool, true, false, ◌||◌, refl}
+use Rattle.std.specs.Prelude.{◌≡◌, ◌<◌, ℕ, zero, suc, Bool, true, false}
 use Rattle.std.proofs.Common.{arith}
 use Rattle.loop_sides.specs.Below.{any_below, all_below}
 

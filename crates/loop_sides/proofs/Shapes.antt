@@ -2,7 +2,7 @@
 use Rattle.std.specs.Prelude.{◌≡◌, ◌≤◌, ℕ, List, [], ◌∷◌, length, Option, None, refl}
 use Rattle.std.proofs.Common.{arith}
 use Rattle.toy_imp.specs.declared.param.Param.{Param}
-use Rattle.toy_imp.specs.Block.{Stmt, Block}
+use Rattle.toy_imp.specs.Block.{Stmt}
 use Rattle.toy_imp.specs.BlockView.{block_of}
 use Rattle.loop_sides.specs.declared.shape.Loop.{Loop}
 use Rattle.loop_sides.specs.declared.shape.Loops.TheVariants as loops

@@ -1,5 +1,5 @@
 -- An expression has the value of its summed form, by induction over the expression.
-use Rattle.std.specs.Prelude.{◌≡◌, ◌≤◌, ◌<◌, ℕ, zero, suc, ◌+◌, ◌==◌, ℤ, pos, negsuc, ◌+ℤ◌, ◌-ℤ◌, ◌*ℤ◌, List, [], ◌∷◌, length, position, Bool, true, false, Option, Some, None, nat_lt, not, slice_index_or, replicate, option_map, All, ◌&&◌, if◌then◌else◌, refl}
+use Rattle.std.specs.Prelude.{◌≡◌, ◌≤◌, ◌<◌, ℕ, zero, suc, ◌==◌, ℤ, pos, negsuc, ◌+ℤ◌, ◌-ℤ◌, ◌*ℤ◌, List, [], ◌∷◌, length, position, Bool, true, false, Option, Some, None, nat_lt, not, slice_index_or, replicate, option_map, All, ◌&&◌, if◌then◌else◌, refl}
 use Rattle.std.proofs.Common.{◌∙◌, ap, sym, arith, subst, ltb-true}
 use Rattle.std.proofs.Math.Dec.{eqb-suc-zero}
 use Rattle.std.specs.List.{position_or_len}
@@ -11,12 +11,12 @@ use Rattle.toy_imp.specs.declared.name.Name.TheVariants.{Own, Par}
 use Rattle.toy_imp.specs.declared.param.Param.{Param}
 use Rattle.toy_imp.specs.declared.param.Kind.TheVariants as kind
 use Rattle.toy_imp.specs.Faults.{has_kind}
-use Rattle.toy_imp.specs.Expr.{Expr, num, at, add, sub, mul, par_expr, Exprs, no_exprs, expr}
+use Rattle.toy_imp.specs.Expr.{Expr, num, at, add, sub, mul, par_expr, no_exprs, expr}
 use Rattle.toy_imp.specs.ExprView.{exprs_of}
-use Rattle.toy_imp.specs.Fill.{name_at, expr_at, fill_expr, fill_exprs, fill_name}
+use Rattle.toy_imp.specs.Fill.{name_at, expr_at, fill_expr, fill_name}
 use Rattle.toy_imp.specs.Cell.{variable}
 use Rattle.toy_imp.specs.Store.{Store, read}
-use Rattle.toy_imp.specs.Value.{value, values}
+use Rattle.toy_imp.specs.Value.{value}
 use Rattle.affine_forms.specs.declared.form.Form.{Form}
 use Rattle.affine_forms.specs.Form.{weighted_sum, form_value, IsForm, plus_multiples, constant_form, counter_form, symbol_form, plus_multiple, plus, minus, scaled}
 use Rattle.affine_forms.proofs.Values.{constant_is_itself, counter_is_its_value, symbol_is_its_value, multiple_is_added}

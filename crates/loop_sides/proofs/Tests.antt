@@ -1,11 +1,11 @@
 -- What the tests of forms answer: each is true exactly where the fact holds.
-use Rattle.std.specs.Prelude.{◌≡◌, ◌≤◌, ℕ, ℤ, pos, List, [], ◌∷◌, Bool, true, false, Decides, All, Option, Some, None, nat_le, refl, if◌then◌else◌}
+use Rattle.std.specs.Prelude.{◌≡◌, ◌≤◌, ℕ, ℤ, pos, List, Bool, Decides, All, nat_le, refl}
 use Rattle.std.specs.Int.RustNames.{unsigned_abs}
 use Rattle.std.specs.Ordering.{int_eq}
-use Rattle.std.proofs.Common.{arith, leb-true, le-leb}
+use Rattle.std.proofs.Common.{leb-true, le-leb}
 use Rattle.std.proofs.lemmas.Bool.Decides.{same_from_decides, Decides-by_and, Decides-and, Decides-int_eq}
 use Rattle.affine_forms.specs.declared.form.Form.{Form}
-use Rattle.affine_forms.specs.Form.{IsAtMost, IsWithin, IsSmall, HasUnitCounters, IsConstant}
+use Rattle.affine_forms.specs.Form.{IsAtMost, IsSmall, HasUnitCounters, IsConstant}
 use Rattle.loop_sides.specs.Summed.{are_at_most, is_small, has_units, are_zero, is_constant}
 
 Decides-leb : (a b : ℕ) → Decides (nat_le a b) (a ≤ b)

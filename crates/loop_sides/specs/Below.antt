@@ -1,5 +1,5 @@
 -- Whether each number below another passes a test, or some does.
-use Rattle.std.specs.Prelude.{ℕ, zero, suc, Bool, true, false, ◌&&◌, ◌||◌, Option, None, Some}
+use Rattle.std.specs.Prelude.{ℕ, zero, suc, Bool, true, false, ◌&&◌, ◌||◌, Option, None}
 use Rattle.std.specs.Option.{option_or}
 
 abbrev pub all_below : (ℕ → Bool) → ℕ → Bool

@@ -1,5 +1,5 @@
 -- The conditions that a rule of loops has to have, so that a statement may be moved past the loops round it.
-use Rattle.std.specs.Prelude.{ℕ, Bool, true, false, not, ◌||◌, ◌&&◌, ◌==◌, nat_lt, List, length}
+use Rattle.std.specs.Prelude.{ℕ, Bool, true, false, not, ◌||◌, ◌&&◌, ◌==◌, nat_lt, length}
 use Rattle.std.specs.List.{list_any}
 use Rattle.toy_imp.specs.declared.condition.Condition.{Condition}
 use Rattle.toy_imp.specs.declared.condition.Condition.TheVariants as condition

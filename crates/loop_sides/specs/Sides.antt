@@ -1,13 +1,13 @@
 -- The shape of a side of a rule of loops: one or two nests of one or two loops round one or two pieces. A piece is a statement
 -- parameter, or one or two `let`s round it. Bounds and values are affine forms in the counters and the symbols.
-use Rattle.std.specs.Prelude.{ℕ, Bool, ◌==◌, List, [], ◌∷◌, Option, Some, None, option_map, option_and_then, if◌then◌else◌}
+use Rattle.std.specs.Prelude.{ℕ, ◌==◌, List, [], ◌∷◌, Option, Some, None, option_map, option_and_then, if◌then◌else◌}
 use Rattle.toy_imp.specs.declared.name.Name.{Name}
 use Rattle.toy_imp.specs.declared.name.Name.TheVariants.{Own, Par}
 use Rattle.toy_imp.specs.declared.param.Kind.TheVariants as kind
 use Rattle.toy_imp.specs.declared.param.Param.{Param}
 use Rattle.toy_imp.specs.Faults.{has_kind}
 use Rattle.toy_imp.specs.Expr.{Expr}
-use Rattle.toy_imp.specs.Block.{Stmt, skip, put, assert_that, if_then, while_do, for_to, let_in, par_stmt, Block, empty, stmt}
+use Rattle.toy_imp.specs.Block.{Stmt, for_to, let_in, par_stmt, Block, empty, stmt}
 use Rattle.affine_forms.specs.declared.form.Form.{Form}
 use Rattle.loop_sides.specs.declared.shape.Loop.{Loop}
 use Rattle.loop_sides.specs.declared.shape.Loops.{Loops}

@@ -1,6 +1,6 @@
 -- Where a statement stands on a side: the loops and the `let`s round it, and the values that these give to names, as forms in the
 -- counters of its nest. Both sides of a rule of loops have the same statements, each once.
-use Rattle.std.specs.Prelude.{ℕ, Bool, not, ◌+◌, ◌==◌, ◌&&◌, ◌||◌, nat_lt, nat_le, List, length, count_by, Option, None, Some, if◌then◌else◌}
+use Rattle.std.specs.Prelude.{ℕ, Bool, not, ◌+◌, ◌==◌, ◌&&◌, nat_le, List, length, count_by, Option, None, Some, if◌then◌else◌}
 use Rattle.std.specs.List.{list_any}
 use Rattle.std.specs.Option.{option_or}
 use Rattle.toy_imp.specs.declared.param.Kind.TheVariants as kind

@@ -1,6 +1,6 @@
 -- The summed form of an expression: the affine form that comes of it in the counters of loops and in symbols, worked out from
 -- its parts. The symbols are the expression parameters of a rule, in order of declaration.
-use Rattle.std.specs.Prelude.{ℕ, Bool, false, true, ◌==◌, nat_lt, nat_le, ◌&&◌, ℤ, pos, List, length, take, count_by, position, Option, Some, None, option_map, if◌then◌else◌}
+use Rattle.std.specs.Prelude.{ℕ, Bool, false, true, ◌==◌, nat_lt, nat_le, ◌&&◌, ℤ, pos, List, take, count_by, position, Option, Some, None, option_map, if◌then◌else◌}
 use Rattle.std.specs.Int.RustNames.{unsigned_abs}
 use Rattle.std.specs.List.{list_all}
 use Rattle.std.specs.Ordering.{int_eq}
