@@ -6,7 +6,7 @@ use Rattle.refutations.specs.declared.refutation.Part.{Part}
 use Rattle.refutations.specs.declared.refutation.Part.TheVariants as part
 use Rattle.word_text.specs.declared.token.Token.{Token}
 use Rattle.term_text.specs.TermReading.{Read, then_read}
-use Rattle.refutation_text.specs.StepReading.{part_read, parts_read, unless_wanted, wanted_behind}
+use Rattle.refutation_text.specs.StepReading.{part_read, parts_read, wanted_behind}
 use Rattle.refutation_text.proofs.Turns.{with_found, with_one, one_less}
 
 module _ (store : Read StoreTerm) (value : Read ValueTerm) where

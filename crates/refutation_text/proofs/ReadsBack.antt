@@ -19,17 +19,16 @@ use Rattle.refutations.specs.declared.refutation.Part.TheVariants as part
 use Rattle.refutations.specs.declared.refutation.Step.{Step}
 use Rattle.refutations.specs.declared.refutation.SumRow.{SumRow}
 use Rattle.refutations.specs.declared.refutation.SumRow.TheVariants as row
-use Rattle.word_text.specs.declared.token.Key.TheVariants as key
 use Rattle.word_text.specs.declared.token.Token.{Token}
-use Rattle.word_text.specs.declared.token.Token.TheVariants.{Key, Par, End}
+use Rattle.word_text.specs.declared.token.Token.TheVariants.{End}
 use Rattle.term_text.specs.TermText.{number_word, is_word_64}
 use Rattle.term_text.specs.TermReading.{Read, then_read}
 use Rattle.term_text.proofs.ReadTerms.{read_after}
-use Rattle.refutation_text.specs.NumberText.{after, end_read, par_read, count_read, index_read, int_read, wide_read, with_rest, is_word_128, many_read, counted_read, count_word, counted_words, index_words}
+use Rattle.refutation_text.specs.NumberText.{after, end_read, index_read, int_read, wide_read, with_rest, is_word_128, many_read, counted_read, count_word, counted_words, index_words}
 use Rattle.refutation_text.specs.LiteralText.{sign_word, atom_words, literal_words, small_store, small_value, atom_fits, literal_fits, literals_fit}
 use Rattle.refutation_text.specs.LiteralReading.{sign_read, one_read, two_read, atom_behind, atom_read, literal_read}
 use Rattle.refutation_text.specs.StepText.{row_words, reason_words, step_words, part_words, refutation_words, index_fits, row_fits, reason_fits, step_fits, part_fits, refutation_fits}
-use Rattle.refutation_text.specs.StepReading.{indices_read, row_behind, row_read, law_read, reason_behind, reason_read, reasoned, step_read, part_behind, part_read, parts_read, refutation_read, wanted_behind}
+use Rattle.refutation_text.specs.StepReading.{indices_read, row_behind, row_read, law_read, reason_behind, reason_read, step_read, part_behind, part_read, parts_read, refutation_read, wanted_behind}
 
 -- what is read of some words, and what comes of it
 pub step : {X Y : Type 0} (o : Option (X × List Token)) (f : X → List Token → Option Y) (x : X) (rest : List Token) → o ≡ Some (x, rest) → then_read o f ≡ f x rest

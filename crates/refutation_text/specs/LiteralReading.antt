@@ -1,11 +1,10 @@
 -- Literals read from the front of words. How a term is read is passed in.
-use Rattle.std.specs.Prelude.{Bool, true, false, List, ◌∷◌, Option, Some, None}
+use Rattle.std.specs.Prelude.{Bool, true, false, ◌∷◌, Some, None}
 use Rattle.rule_terms.specs.Term.{StoreTerm, ValueTerm}
 use Rattle.rule_terms.specs.declared.obligation.Atom.{Atom}
 use Rattle.rule_terms.specs.declared.obligation.Atom.TheVariants as atom
 use Rattle.rule_terms.specs.declared.obligation.Literal.{Literal}
 use Rattle.word_text.specs.declared.token.Key.TheVariants as key
-use Rattle.word_text.specs.declared.token.Token.{Token}
 use Rattle.word_text.specs.declared.token.Token.TheVariants.{Key}
 use Rattle.term_text.specs.TermReading.{Read, then_read, store_read, value_read}
 use Rattle.refutation_text.specs.declared.head.AtomHead.{AtomHead}

@@ -1,6 +1,6 @@
 -- Literals as words, and which of them are within the grammar. How a term stands in a line is passed in.
 --   lit : (+|-) (name #j #k | store STORE STORE | value VALUE VALUE | most VALUE VALUE N | ends STORE | holds #k STORE)
-use Rattle.std.specs.Prelude.{◌^◌, Bool, true, false, ◌&&◌, List, [], ◌∷◌, ◌++◌, nat_lt, nat_le, Option, Some, None}
+use Rattle.std.specs.Prelude.{Bool, true, false, ◌&&◌, List, [], ◌∷◌, ◌++◌, nat_le}
 use Rattle.std.specs.List.{list_all}
 use Rattle.rule_terms.specs.Term.{StoreTerm, ValueTerm, store_depth, value_depth}
 use Rattle.rule_terms.specs.declared.obligation.Atom.{Atom}

@@ -1,9 +1,8 @@
 -- Numbers as words, and what is read from the front of words: a number, a parameter, the end of a line, so many things one after another.
-use Rattle.std.specs.Prelude.{ℕ, zero, suc, ◌^◌, ℤ, pos, negsuc, Bool, true, false, cond, List, [], ◌∷◌, ◌++◌, length, nat_lt, Option, Some, None}
+use Rattle.std.specs.Prelude.{ℕ, zero, suc, ◌^◌, ℤ, pos, negsuc, Bool, true, false, cond, List, [], ◌∷◌, length, nat_lt, Option, Some, None}
 use Rattle.std.specs.List.{flat_map}
 use Rattle.word_text.specs.declared.token.Token.{Token}
 use Rattle.word_text.specs.declared.token.Token.TheVariants.{Number, Par, End}
-use Rattle.term_text.specs.TermText.{number_word}
 use Rattle.term_text.specs.TermReading.{Read, then_read, constant_of}
 
 -- ---- words

@@ -1,6 +1,6 @@
 -- Steps and refutations as words, and which of them are within the grammar. How a term stands in a line is passed in.
 --   proof : split LIT, and two proofs; or leaf k, and k lines `step LIT` with a reason
-use Rattle.std.specs.Prelude.{◌^◌, Bool, true, false, ◌&&◌, ℕ, List, [], ◌∷◌, ◌++◌, length, nat_lt}
+use Rattle.std.specs.Prelude.{◌^◌, Bool, true, ◌&&◌, ℕ, List, [], ◌∷◌, ◌++◌, length, nat_lt}
 use Rattle.std.specs.List.{list_all, flat_map}
 use Rattle.rule_terms.specs.Term.{StoreTerm, ValueTerm}
 use Rattle.refutations.specs.Refutation.{Refutation, parts}

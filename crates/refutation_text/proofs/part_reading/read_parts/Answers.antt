@@ -24,12 +24,13 @@ loop-turn-preserved c =
     let vr = value_read 4100 in
     let end = length c.args.tokens.now in
     let all = parts_read sr vr end 1 c.args.tokens.now in
-    let more = end - (c.loop-turn._turn + 1) in
-    (omega (arith, wanted_bound c.loop-turn.wanted c.in_ok-part.part, c.wanted_behind-wanted.ensures, c.loop-turn.invariant.0),
-    subst (λ found. with_found found (parts_read sr vr more c.wanted_behind-wanted.result c.in_ok-part.after.now) ≡ all) (sym c.in_ok-push.ensures.ok)
-    (subst (λ w. with_found (c.loop-turn.found ++ c.in_ok-part.part ∷ []) (parts_read sr vr more w c.in_ok-part.after.now) ≡ all) (sym c.wanted_behind-wanted.ensures)
-    (part_found sr vr c.loop-turn.found c.in_ok-part.part end c.loop-turn._turn c.loop-turn.wanted c.loop-turn.rest.now c.in_ok-part.after.now all
-    c.loop-turn-test.true (omega (arith, c.if-wanted-eq0.false)) c.loop-turn.invariant.1 c.in_ok-part.ensures)))
+    let more = end - (c.loop-turn._turn + 1) in (
+      omega (arith, wanted_bound c.loop-turn.wanted c.in_ok-part.part, c.wanted_behind-wanted.ensures, c.loop-turn.invariant.0),
+      subst (λ found. with_found found (parts_read sr vr more c.wanted_behind-wanted.result c.in_ok-part.after.now) ≡ all) (sym c.in_ok-push.ensures.ok)
+          (subst (λ w. with_found (c.loop-turn.found ++ c.in_ok-part.part ∷ []) (parts_read sr vr more w c.in_ok-part.after.now) ≡ all) (sym c.wanted_behind-wanted.ensures)
+          (part_found sr vr c.loop-turn.found c.in_ok-part.part end c.loop-turn._turn c.loop-turn.wanted c.loop-turn.rest.now c.in_ok-part.after.now all
+          c.loop-turn-test.true (omega (arith, c.if-wanted-eq0.false)) c.loop-turn.invariant.1 c.in_ok-part.ensures)),
+    )
 
 pub returns-then-wanted-eq0-2 : goal.returns-then-wanted-eq0-2
 returns-then-wanted-eq0-2 c =

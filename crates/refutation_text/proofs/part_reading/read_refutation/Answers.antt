@@ -1,4 +1,4 @@
-use Rattle.std.proofs.Common.{◌≡◌, length, subst}
+use Rattle.std.proofs.Common.{length, subst}
 use Rattle.refutations.specs.Refutation.{tree_of, IsRead}
 use Rattle.term_text.specs.TermReading.{store_read, value_read}
 use Rattle.refutation_text.proofs.WholeParts.{read_whole}
