@@ -1,0 +1,5 @@
+pub mod Answering
+pub mod CertificateReads
+pub mod Comparing
+pub mod TextLaws
+pub mod WholeLines

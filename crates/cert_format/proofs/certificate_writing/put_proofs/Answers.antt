@@ -1,0 +1,10 @@
+use Rattle.std.proofs.Common.{◌++◌, ◌∙◌, ap}
+use Rattle.term_text.specs.TermText.{store_words, value_words}
+use Rattle.cert_format.specs.CertificateText.{proved_words}
+use Rattle.refutation_text.proofs.FlatTurns.{put_more}
+use Rattle.cert_format.proofs.certificate_writing.put_proofs.Goals as goal
+
+pub loop-item-preserved : goal.loop-item-preserved
+loop-item-preserved c =
+    put_more (proved_words store_words value_words) c.args.out.now c.args.items.now c.loop-item.item-index c.item-item.result c.loop-item.out _ c.loop-item-test.true c.loop-item.invariant
+    (c.in_ok-put_proved.ensures ∙ ap (λ x. c.loop-item.out ++ (proved_words store_words value_words) x) c.item-item.is)

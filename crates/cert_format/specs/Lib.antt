@@ -1,0 +1,4 @@
+pub mod CertificateReading
+pub mod CertificateText
+pub mod SectionText
+pub mod TextLaws
