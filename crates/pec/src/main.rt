@@ -7,20 +7,22 @@ use pec_top::serve_plain;
 use std::env;
 use std::process::ExitCode;
 
-const USAGE: &str = "usage: pec prove | print | run --steps N";
+const USAGE: &str = "usage: pec prove | check | print | run --steps N";
 
 const HELP: &str = "\
 pec proves rewrite rules once for everything that their parameters stand for.
 
-usage: pec prove | print | run --steps N
+usage: pec prove | check | print | run --steps N
        pec --help | --version
 
 prove          reads rules from standard input, proves or refuses each, and writes a report
-print          writes the rules and programs of standard input in canonical form
+check          checks the certificates of standard input against their rules, and writes a report
+print          writes the rules, programs and certificates of standard input in canonical form
 run --steps N  runs each program of standard input for at most N steps, N from 0 to 1000000,
                and reports how it ran and which cells it left that are not 0
 
-status  0 done, 1 done and a rule was refused or a program did not end, 2 no such command,
+status  0 done, 1 done and a rule was refused, a certificate is not valid or a program did not end,
+        2 no such command,
         3 input refused, 4 a read failed, 5 a write failed, 6 want of memory";
 
 fn main(rt: HostRuntime) -> ExitCode {

@@ -23,7 +23,13 @@ use Rattle.pec_top.specs.declared.content.Item.TheVariants as item
 use Rattle.pec_top.specs.declared.content.Reason.{Reason}
 use Rattle.pec_top.specs.declared.content.Reason.TheVariants as reason
 use Rattle.pec_top.specs.declared.titles.Titles.{Titles}
-use Rattle.pec_top.specs.Content.{is_prove, is_built, unread, program_content, resting_content, chain_content, rule_read_content, program_read_content, RuleHolds, ProgramHolds, KindHolds, Holds}
+use Rattle.cert_checker.specs.declared.certificate.Certificate.{Certificate}
+use Rattle.term_text.specs.declared.refusal.Unread.{Unread}
+use Rattle.term_text.specs.declared.refusal.Unread.TheVariants as why
+use Rattle.pec_top.specs.Content.{is_prove, is_built, unread, program_content, resting_content, certificate_content, chain_content, rule_read_content, program_read_content, certificate_read_content}
+use Rattle.pec_top.specs.Content.{RuleHolds, ProgramHolds, CertSectionHolds, KindHolds, Holds}
+use Rattle.pec_top.specs.FaultlessItems.{IsFaultless}
+use Rattle.pec_top.specs.LaterFormats.{is_later_format}
 use Rattle.pec_top.specs.Input.{taken, listed, HoldAll, IsRefusedWithin}
 use Rattle.pec_top.specs.PrintedItems.{IsSpellable}
 use Rattle.pec_top.specs.Seen.{titles_in, namesakes_in, Sees}
@@ -94,6 +100,29 @@ pub rule_taken : (command : Command) (repeated : Bool) (section : Section) (firs
     → RuleHolds command repeated section (taken first) → RuleTaken command repeated section first
 rule_taken command repeated section first h = rule_answer_taken command repeated section first h.read h.answer h.is
 
+-- what a `cert` section is that is not refused
+pub record CertificateTaken (section : Section) (first : Option Item) : Type 0 where
+  pub certificate : Certificate
+  pub one : first ≡ Some (item.Certificate (record { title = section.title; certificate = certificate }))
+
+certificate_taken_by : (has_rule : Bool) (section : Section) (c : Certificate) (first : Option Item)
+    → Some (certificate_content has_rule section.title c) ≡ Some (taken first) → CertificateTaken section first
+certificate_taken_by true section c None h = cc
+certificate_taken_by true section c (Some a) h = record { certificate = c; one = cc }
+certificate_taken_by false section c None h = cc
+certificate_taken_by false section c (Some a) h = cc
+
+certificate_answer_taken : (has_rule : Bool) (section : Section) (first : Option Item) (read : Result Certificate Unread)
+    → certificate_read_content has_rule section.title read ≡ Some (taken first) → CertificateTaken section first
+certificate_answer_taken has_rule section first (Ok c) h = certificate_taken_by has_rule section c first h
+certificate_answer_taken has_rule section None (Err why.NotGrammar) h = cc
+certificate_answer_taken has_rule section (Some a) (Err why.NotGrammar) h = cc
+certificate_answer_taken has_rule section first (Err why.NoMemory) h = cc
+
+pub certificate_taken : (later has_rule : Bool) (section : Section) (first : Option Item) → CertSectionHolds later has_rule section (taken first) → CertificateTaken section first
+certificate_taken true has_rule section first h = absurd (resting_not_taken has_rule first h)
+certificate_taken false has_rule section first h = certificate_answer_taken has_rule section first h.read h.is
+
 -- what a program section is that is not refused
 pub record ProgramTaken (repeated : Bool) (section : Section) (first : Option Item) : Type 0 where
   pub block : Block
@@ -147,7 +176,8 @@ kind_titled kind.Rule command known section first h =
     subst (λ z. IsTitled z section.title) (sym parts.one) (rule_titled section parts.rule parts.answer.0)
 kind_titled kind.Program command known section first h = subst (λ z. IsTitled z section.title) (sym (program_taken known.program section first h).one) tt
 kind_titled kind.Report command known section first h = subst (λ z. IsTitled z section.title) (sym (nothing_taken first h)) tt
-kind_titled kind.Cert command known section first h = absurd (resting_not_taken known.rule first h)
+kind_titled kind.Cert command known section first h =
+    subst (λ z. IsTitled z section.title) (sym (certificate_taken (is_later_format section.body) known.rule section first h).one) tt
 kind_titled kind.Refused command known section first h = absurd (resting_not_taken known.rule first h)
 kind_titled kind.Trace command known section first h = absurd (resting_not_taken known.rule first h)
 kind_titled kind.Chain command known section first h = absurd (chain_not_taken command known.chain_rule known.chain first h)
@@ -246,7 +276,8 @@ kind_spellable kind.Program command known section first id h =
     let parts = program_taken known.program section first h in
     subst IsSpelled (sym parts.one) (read_is_spellable section.title section.body parts.block id parts.answer.0)
 kind_spellable kind.Report command known section first id h = subst IsSpelled (sym (nothing_taken first h)) tt
-kind_spellable kind.Cert command known section first id h = absurd (resting_not_taken known.rule first h)
+kind_spellable kind.Cert command known section first id h =
+    subst IsSpelled (sym (certificate_taken (is_later_format section.body) known.rule section first h).one) tt
 kind_spellable kind.Refused command known section first id h = absurd (resting_not_taken known.rule first h)
 kind_spellable kind.Trace command known section first id h = absurd (resting_not_taken known.rule first h)
 kind_spellable kind.Chain command known section first id h = absurd (chain_not_taken command known.chain_rule known.chain first h)
@@ -264,3 +295,32 @@ accepted_spellable command earlier held (s ∷ more) items ids all =
     (kind_spellable s.kind command _ s all.0 (All-head (λ (section : Section). is_id section.title ≡ true) s more ids) all.3)
     (accepted_spellable command (earlier ++ s ∷ []) (held ++ listed all.0) more all.1
     (All-tail (λ (section : Section). is_id section.title ≡ true) s more ids) all.4))
+
+-- ---- items whose rules are well formed
+abbrev IsWell : Option Item → Type 0
+IsWell None = Unit {0}
+IsWell (Some a) = IsFaultless a
+
+kind_faultless : (k : SectionKind) (command : Command) (known : Namesakes) (section : Section) (first : Option Item)
+    → KindHolds k command known section (taken first) → IsWell first
+kind_faultless kind.Rule command known section first h =
+    let parts = rule_taken command known.rule section first h in
+    subst IsWell (sym parts.one) parts.answer.1
+kind_faultless kind.Program command known section first h = subst IsWell (sym (program_taken known.program section first h).one) tt
+kind_faultless kind.Report command known section first h = subst IsWell (sym (nothing_taken first h)) tt
+kind_faultless kind.Cert command known section first h =
+    subst IsWell (sym (certificate_taken (is_later_format section.body) known.rule section first h).one) tt
+kind_faultless kind.Refused command known section first h = absurd (resting_not_taken known.rule first h)
+kind_faultless kind.Trace command known section first h = absurd (resting_not_taken known.rule first h)
+kind_faultless kind.Chain command known section first h = absurd (chain_not_taken command known.chain_rule known.chain first h)
+
+with_well : (first : Option Item) (others : List Item) → IsWell first → All IsFaultless others → All IsFaultless (listed first ++ others)
+with_well None others h rest = rest
+with_well (Some a) others h rest = All-cons IsFaultless a others h rest
+
+pub accepted_faultless : (command : Command) (earlier : List Section) (held : List Item) (sections : List Section) (items : List Item)
+    → HoldAll command earlier held sections items → All IsFaultless items
+accepted_faultless command earlier held [] items all = subst (All IsFaultless) (sym all) (All-nil IsFaultless)
+accepted_faultless command earlier held (s ∷ more) items all =
+    subst (All IsFaultless) (sym all.2)
+    (with_well all.0 all.1 (kind_faultless s.kind command _ s all.0 all.3) (accepted_faultless command (earlier ++ s ∷ []) (held ++ listed all.0) more all.1 all.4))

@@ -7,21 +7,25 @@ use Rattle.pec_text.specs.SectionsOf.{sections_of}
 use Rattle.pec_text.specs.declared.section_data.Section.{Section}
 use Rattle.pec_text.specs.declared.section_data.SectionList.{SectionList}
 use Rattle.pec_top.specs.declared.command.Command.{Command}
-use Rattle.pec_top.specs.declared.command.Command.TheVariants.{Prove, Print, Run}
+use Rattle.pec_top.specs.declared.command.Command.TheVariants.{Prove, Check, Print, Run}
 use Rattle.pec_top.specs.declared.input.Input.{Input}
 use Rattle.pec_top.specs.declared.input.Input.TheVariants as input
 use Rattle.pec_top.specs.Input.{InputIs}
+use Rattle.pec_top.specs.FaultlessItems.{HasNoFault}
 use Rattle.pec_top.specs.PrintedItems.{IsPrintable}
 use Rattle.pec_top.specs.declared.output.Output.{Output}
 use Rattle.pec_top.specs.Output.{OutputIs}
 use Rattle.pec_top.specs.Serving.{Proves, IsInput, ReadsAll, Delivers, Writes}
-use Rattle.pec_top.proofs.Accepted.{accepted_spellable}
-use Rattle.pec_top.proofs.Validity.{proved_are_valid}
+use Rattle.pec_top.proofs.Accepted.{accepted_spellable, accepted_faultless}
+use Rattle.pec_top.proofs.Validity.{proved_are_valid, checked_are_valid}
 
 proves : (command : Command) (bytes : List ℕ) (found : Input) → InputIs command (sections_of bytes) found → Proves command bytes found
 proves Prove bytes (input.Accepted items) h = proved_are_valid (sections_of bytes).whole items h.0
 proves Prove bytes (input.Refused refusal) h = tt
 proves Prove bytes input.Larger h = tt
+proves Check bytes (input.Accepted items) h = checked_are_valid (sections_of bytes).whole items h.0
+proves Check bytes (input.Refused refusal) h = tt
+proves Check bytes input.Larger h = tt
 proves Print bytes found h = tt
 proves (Run steps) bytes found h = tt
 
@@ -45,6 +49,15 @@ pub read_printable : {E : Type 0} (command : Command) (text : SectionList) (r : 
     → IfOk r (InputIs command text) → IfOk r IsPrintable
 read_printable command text (Ok found) ids h = printable command text found ids h
 read_printable command text (Err e) ids h = tt
+
+faultless : (command : Command) (text : SectionList) (found : Input) → InputIs command text found → HasNoFault found
+faultless command text (input.Accepted items) h = accepted_faultless command [] [] text.whole items h.0
+faultless command text (input.Refused refusal) h = tt
+faultless command text input.Larger h = tt
+
+pub read_faultless : {E : Type 0} (command : Command) (text : SectionList) (r : Result Input E) → IfOk r (InputIs command text) → IfOk r HasNoFault
+read_faultless command text (Ok found) h = faultless command text found h
+read_faultless command text (Err e) h = tt
 
 -- ---- what is read to the end is all that was left
 pub reads_all : (command : Command) (left left' : Option (List ℕ)) (bytes : List ℕ) (found : Input) → Consumes left left' bytes → IsAtEnd left' → IsInput command bytes found

@@ -1,6 +1,7 @@
 pub mod Accepted
 pub mod Answering
 pub mod Borrowed
+pub mod Checking
 mod Examples
 pub mod Inputs
 pub mod OneContent

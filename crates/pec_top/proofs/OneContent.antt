@@ -1,6 +1,6 @@
 -- A section holds one thing behind the earlier ones: what a reader answers of one body is the same answer each time, want of
 -- memory left out.
-use Rattle.std.proofs.Common.{◌≡◌, ℕ, Bool, List, None, Some, Result, Ok, Err, sym, ap, subst, ◌∙◌}
+use Rattle.std.proofs.Common.{◌≡◌, ℕ, Bool, true, false, List, None, Some, Result, Ok, Err, refl, sym, ap, subst, ◌∙◌}
 use Rattle.std.proofs.lemmas.Option.{none-some, same_Some}
 use Rattle.toy_imp.specs.declared.rule.Rule.{Rule}
 use Rattle.toy_imp.specs.Block.{Block}
@@ -18,7 +18,13 @@ use Rattle.pec_top.specs.declared.command.Command.{Command}
 use Rattle.pec_top.specs.declared.content.Content.{Content}
 use Rattle.pec_top.specs.declared.content.Item.{Item}
 use Rattle.pec_top.specs.Titles.{Namesakes}
-use Rattle.pec_top.specs.Content.{unread, rule_read_content, program_read_content, KindHolds, Holds}
+use Rattle.cert_checker.specs.declared.certificate.Certificate.{Certificate}
+use Rattle.cert_format.specs.SectionText.{CertificateAnswer}
+use Rattle.cert_format.proofs.TextLaws.{one_certificate}
+use Rattle.term_text.specs.declared.refusal.Unread.{Unread}
+use Rattle.term_text.specs.declared.refusal.Unread.TheVariants as why
+use Rattle.pec_top.specs.LaterFormats.{is_later_format}
+use Rattle.pec_top.specs.Content.{unread, rule_read_content, program_read_content, certificate_read_content, CertSectionHolds, KindHolds, Holds}
 
 -- ---- answers on rules
 module _ (title bytes : List ℕ) where
@@ -77,6 +83,22 @@ module _ (bytes title : List ℕ) where
   one_program_content repeated (Err read.NoMemory) s a b x y h k = absurd (none-some a h)
   one_program_content repeated r (Err read.NoMemory) a b x y h k = absurd (none-some b k)
 
+-- ---- answers on certificates
+module _ (body title : List ℕ) where
+  one_certificate_content : (has_rule : Bool) (r s : Result Certificate Unread) (a b : Content) → CertificateAnswer body r → CertificateAnswer body s
+      → certificate_read_content has_rule title r ≡ Some a → certificate_read_content has_rule title s ≡ Some b → a ≡ b
+  one_certificate_content has_rule (Ok c) (Ok d) a b x y h k =
+      same_Some _ _ (sym h ∙ ap (λ z. certificate_read_content has_rule title (Ok z)) (one_certificate body c d x y) ∙ k)
+  one_certificate_content has_rule (Ok c) (Err why.NotGrammar) a b x y h k = absurd (y refl c x)
+  one_certificate_content has_rule (Err why.NotGrammar) (Ok d) a b x y h k = absurd (x refl d y)
+  one_certificate_content has_rule (Err why.NotGrammar) (Err why.NotGrammar) a b x y h k = same_Some _ _ (sym h ∙ k)
+  one_certificate_content has_rule (Err why.NoMemory) s a b x y h k = absurd (none-some a h)
+  one_certificate_content has_rule r (Err why.NoMemory) a b x y h k = absurd (none-some b k)
+
+one_cert_section : (later has_rule : Bool) (section : Section) (a b : Content) → CertSectionHolds later has_rule section a → CertSectionHolds later has_rule section b → a ≡ b
+one_cert_section true has_rule section a b x y = x ∙ sym y
+one_cert_section false has_rule section a b x y = one_certificate_content section.body section.title has_rule x.read y.read a b x.answer y.answer x.is y.is
+
 -- ---- sections
 pub one_kind_content : (k : SectionKind) (command : Command) (known : Namesakes) (section : Section) (a b : Content)
     → KindHolds k command known section a → KindHolds k command known section b → a ≡ b
@@ -85,7 +107,7 @@ one_kind_content kind.Rule command known section a b x y =
 one_kind_content kind.Program command known section a b x y =
     one_program_content section.body section.title known.program x.read y.read a b x.answer y.answer x.is y.is
 one_kind_content kind.Report command known section a b x y = x ∙ sym y
-one_kind_content kind.Cert command known section a b x y = x ∙ sym y
+one_kind_content kind.Cert command known section a b x y = one_cert_section (is_later_format section.body) known.rule section a b x y
 one_kind_content kind.Refused command known section a b x y = x ∙ sym y
 one_kind_content kind.Trace command known section a b x y = x ∙ sym y
 one_kind_content kind.Chain command known section a b x y = x ∙ sym y

@@ -9,6 +9,7 @@ use Rattle.toy_imp.specs.declared.rule.Rule.{Rule}
 use Rattle.pec_top.specs.declared.content.Item.{Item}
 use Rattle.pec_top.specs.declared.content.Item.TheVariants as item
 use Rattle.pec_top.specs.declared.content.Program.{Program}
+use Rattle.pec_top.specs.declared.content.TitledCertificate.{TitledCertificate}
 use Rattle.pec_top.specs.declared.run_report.Outcome.{Outcome}
 use Rattle.pec_top.specs.declared.output.Output.{Output}
 use Rattle.pec_top.specs.Output.{IsRunReport}
@@ -19,6 +20,7 @@ use Rattle.pec_top.specs.Runs.{ProgramRun, AreRuns}
 runs_append : (steps : ℕ) (xs ys : List Item) (a b : List ProgramRun) → AreRuns steps xs a → AreRuns steps ys b → AreRuns steps (xs ++ ys) (a ++ b)
 runs_append steps [] ys a b x y = subst (λ z. AreRuns steps ys (z ++ b)) (sym x) y
 runs_append steps (item.Rule rule ∷ more) ys a b x y = runs_append steps more ys a b x y
+runs_append steps (item.Certificate c ∷ more) ys a b x y = runs_append steps more ys a b x y
 runs_append steps (item.Program program ∷ more) ys a b x y =
     (x.0, x.1 ++ b, ap (λ z. z ++ b) x.2, x.3, runs_append steps more ys x.1 b x.4 y)
 
@@ -42,6 +44,10 @@ reports_none steps o t = record { runs = []; are = refl; outcomes_are = sym (app
 
 pub reports_rule : (steps : ℕ) (a : Item) (rule : Rule) (o : List Outcome) (t : List ℕ) → a ≡ item.Rule rule → Reports steps (a ∷ []) o o t t
 reports_rule steps a rule o t is =
+    subst (λ z. Reports steps (z ∷ []) o o t t) (sym is) (record { runs = []; are = refl; outcomes_are = sym (append-nil o); out_is = sym (append-nil t) })
+
+pub reports_certificate : (steps : ℕ) (a : Item) (c : TitledCertificate) (o : List Outcome) (t : List ℕ) → a ≡ item.Certificate c → Reports steps (a ∷ []) o o t t
+reports_certificate steps a c o t is =
     subst (λ z. Reports steps (z ∷ []) o o t t) (sym is) (record { runs = []; are = refl; outcomes_are = sym (append-nil o); out_is = sym (append-nil t) })
 
 pub reports_program : (steps : ℕ) (a : Item) (program : Program) (ran : Ran) (o o' : List Outcome) (t t' : List ℕ) → a ≡ item.Program program

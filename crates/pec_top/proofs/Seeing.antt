@@ -73,12 +73,14 @@ abbrev pub IsTitled : Option Item → List ℕ → Type 0
 IsTitled None title = Unit {0}
 IsTitled (Some (item.Rule rule)) title = rule.title ≡ title
 IsTitled (Some (item.Program program)) title = Unit {0}
+IsTitled (Some (item.Certificate c)) title = Unit {0}
 
 chain_among : (t : List ℕ) (seen : List (List ℕ)) (title : List ℕ) (first : Option Item) → IsTitled first title
     → list_any (bytes_eq t) (chain_seen_with seen title (taken first)) ≡ (list_any (bytes_eq t) seen || has_chain_rule t (listed first))
 chain_among t seen title None is = sym (or_false (list_any (bytes_eq t) seen))
 chain_among t seen title (Some (item.Rule rule)) is = chain_by t (is_chain rule.method) seen title rule.title is
 chain_among t seen title (Some (item.Program program)) is = sym (or_false (list_any (bytes_eq t) seen))
+chain_among t seen title (Some (item.Certificate c)) is = sym (or_false (list_any (bytes_eq t) seen))
 
 chain_append : (t : List ℕ) (items more : List Item) → has_chain_rule t (items ++ more) ≡ (has_chain_rule t items || has_chain_rule t more)
 chain_append t items more =

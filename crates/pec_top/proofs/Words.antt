@@ -4,7 +4,7 @@ use Rattle.std.proofs.lemmas.Fmt.{decimal_injective, parse-decimal}
 use Rattle.std.specs.Str.Parse.{ParsesUnsigned}
 use Rattle.std.proofs.lemmas.Slice.Eq.{bytes_eq-Decides}
 use Rattle.pec_top.specs.declared.command.Command.{Command}
-use Rattle.pec_top.specs.declared.command.Command.TheVariants.{Prove, Print, Run}
+use Rattle.pec_top.specs.declared.command.Command.TheVariants.{Prove, Check, Print, Run}
 use Rattle.pec_top.specs.Command.{most_steps, IsStepCount, IsSteps, Name}
 
 -- ---- lists of words
@@ -32,6 +32,7 @@ apart_first a b xs ys differ h = apart a b differ (same_first a b xs ys h)
 -- ---- what words name
 pub empty_names_none : (command : Command) → Name [] command → ⊥
 empty_names_none Prove h = none_first _ _ h
+empty_names_none Check h = none_first _ _ h
 empty_names_none Print h = none_first _ _ h
 empty_names_none (Run n) h = none_first _ _ h.0
 
@@ -40,18 +41,21 @@ run_named first rest n is h = (λ j. is j ∷ h.0 j, h.1)
 
 pub run_else : (first : List ℕ) (rest : List (List ℕ)) → first ≡ codes "run" → ((n : ℕ) → IsSteps rest n → ⊥) → (command : Command) → Name (first ∷ rest) command → ⊥
 run_else first rest is none Prove h = apart (codes "run") (codes "prove") refl (sym is ∙ same_first first (codes "prove") rest [] h)
+run_else first rest is none Check h = apart (codes "run") (codes "check") refl (sym is ∙ same_first first (codes "check") rest [] h)
 run_else first rest is none Print h = apart (codes "run") (codes "print") refl (sym is ∙ same_first first (codes "print") rest [] h)
 run_else first rest is none (Run n) h = none n (same_rest first (codes "run") rest (codes "--steps" ∷ decimal n ∷ []) h.0, h.1)
 
 pub longer_names_none : (first : List ℕ) (rest : List (List ℕ)) → first ≢ codes "run" → rest ≢ [] → (command : Command) → Name (first ∷ rest) command → ⊥
 longer_names_none first rest other more Prove h = more (same_rest first (codes "prove") rest [] h)
+longer_names_none first rest other more Check h = more (same_rest first (codes "check") rest [] h)
 longer_names_none first rest other more Print h = more (same_rest first (codes "print") rest [] h)
 longer_names_none first rest other more (Run n) h = other (same_first first (codes "run") rest (codes "--steps" ∷ decimal n ∷ []) h.0)
 
-pub word_names_none : (word : List ℕ) → word ≢ codes "prove" → word ≢ codes "print" → (command : Command) → Name (word ∷ []) command → ⊥
-word_names_none word p q Prove h = p (same_first word (codes "prove") [] [] h)
-word_names_none word p q Print h = q (same_first word (codes "print") [] [] h)
-word_names_none word p q (Run n) h = none_first _ _ (same_rest word (codes "run") [] (codes "--steps" ∷ decimal n ∷ []) h.0)
+pub word_names_none : (word : List ℕ) → word ≢ codes "prove" → word ≢ codes "check" → word ≢ codes "print" → (command : Command) → Name (word ∷ []) command → ⊥
+word_names_none word p c q Prove h = p (same_first word (codes "prove") [] [] h)
+word_names_none word p c q Check h = c (same_first word (codes "check") [] [] h)
+word_names_none word p c q Print h = q (same_first word (codes "print") [] [] h)
+word_names_none word p c q (Run n) h = none_first _ _ (same_rest word (codes "run") [] (codes "--steps" ∷ decimal n ∷ []) h.0)
 
 -- ---- a number of steps
 -- what is read of a word that is a number of steps
@@ -89,12 +93,19 @@ same_steps m n p q h = decimal_injective m n (omega (arith, p)) (omega (arith, q
 
 pub one_command : (words : List (List ℕ)) (a b : Command) → Name words a → Name words b → a ≡ b
 one_command words Prove Prove x y = refl
+one_command words Prove Check x y = absurd (apart_first (codes "prove") (codes "check") _ _ refl (sym x ∙ y))
 one_command words Prove Print x y = absurd (apart_first (codes "prove") (codes "print") _ _ refl (sym x ∙ y))
 one_command words Prove (Run n) x y = absurd (apart_first (codes "prove") (codes "run") _ _ refl (sym x ∙ y.0))
+one_command words Check Prove x y = absurd (apart_first (codes "check") (codes "prove") _ _ refl (sym x ∙ y))
+one_command words Check Check x y = refl
+one_command words Check Print x y = absurd (apart_first (codes "check") (codes "print") _ _ refl (sym x ∙ y))
+one_command words Check (Run n) x y = absurd (apart_first (codes "check") (codes "run") _ _ refl (sym x ∙ y.0))
 one_command words Print Prove x y = absurd (apart_first (codes "print") (codes "prove") _ _ refl (sym x ∙ y))
+one_command words Print Check x y = absurd (apart_first (codes "print") (codes "check") _ _ refl (sym x ∙ y))
 one_command words Print Print x y = refl
 one_command words Print (Run n) x y = absurd (apart_first (codes "print") (codes "run") _ _ refl (sym x ∙ y.0))
 one_command words (Run m) Prove x y = absurd (apart_first (codes "prove") (codes "run") _ _ refl (sym y ∙ x.0))
+one_command words (Run m) Check x y = absurd (apart_first (codes "check") (codes "run") _ _ refl (sym y ∙ x.0))
 one_command words (Run m) Print x y = absurd (apart_first (codes "print") (codes "run") _ _ refl (sym y ∙ x.0))
 one_command words (Run m) (Run n) x y =
     ap Run (same_steps m n x.1 y.1 (same_last (codes "run") (codes "--steps") (decimal m) (decimal n) (sym x.0 ∙ y.0)))

@@ -1,7 +1,7 @@
 -- The commands of the program, and the words that name them.
 use Rattle.std.specs.Prelude.{◌≡◌, ◌≤◌, ℕ, List, [], ◌∷◌, codes, decimal, Option, None, Some}
 use Rattle.pec_top.specs.declared.command.Command.{Command}
-use Rattle.pec_top.specs.declared.command.Command.TheVariants.{Prove, Print, Run}
+use Rattle.pec_top.specs.declared.command.Command.TheVariants.{Prove, Check, Print, Run}
 
 -- the greatest number of steps that a run can be given
 abbrev pub most_steps : ℕ
@@ -15,9 +15,10 @@ IsStepCount word steps = (word ≡ decimal steps) × (steps ≤ most_steps)
 abbrev pub IsSteps : List (List ℕ) → ℕ → Type 0
 IsSteps words steps = (words ≡ codes "--steps" ∷ decimal steps ∷ []) × (steps ≤ most_steps)
 
--- the words of the program, without its own name, are `prove`, `print`, or `run --steps` and a number of steps
+-- the words of the program, without its own name, are `prove`, `check`, `print`, or `run --steps` and a number of steps
 abbrev pub Name : List (List ℕ) → Command → Type 0
 Name words Prove = words ≡ codes "prove" ∷ []
+Name words Check = words ≡ codes "check" ∷ []
 Name words Print = words ≡ codes "print" ∷ []
 Name words (Run steps) = (words ≡ codes "run" ∷ codes "--steps" ∷ decimal steps ∷ []) × (steps ≤ most_steps)
 

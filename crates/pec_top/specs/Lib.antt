@@ -1,6 +1,10 @@
+pub mod CheckReport
+pub mod Checks
 pub mod Command
 pub mod Content
+pub mod FaultlessItems
 pub mod Input
+pub mod LaterFormats
 pub mod Output
 pub mod PrintedItems
 pub mod RefusalLine

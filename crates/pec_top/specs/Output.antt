@@ -1,14 +1,15 @@
 -- What a command has to write for an input, and how the run ends that writes it whole: with status 0, with 1 where a rule is
--- refused or a program does not end, with 3 where the input is refused.
+-- refused, a certificate is not valid or a program does not end, with 3 where the input is refused.
 use Rattle.std.specs.Prelude.{◌≡◌, ℕ, List}
 use Rattle.pec_top.specs.declared.command.Command.{Command}
-use Rattle.pec_top.specs.declared.command.Command.TheVariants.{Prove, Print, Run}
+use Rattle.pec_top.specs.declared.command.Command.TheVariants.{Prove, Check, Print, Run}
 use Rattle.pec_top.specs.declared.content.Item.{Item}
 use Rattle.pec_top.specs.declared.input.Input.{Input}
 use Rattle.pec_top.specs.declared.input.Input.TheVariants as input
 use Rattle.pec_top.specs.declared.output.Ending.{Ending}
 use Rattle.pec_top.specs.declared.output.Ending.TheVariants as ending
 use Rattle.pec_top.specs.declared.output.Output.{Output}
+use Rattle.pec_top.specs.CheckReport.{IsCheckReport}
 use Rattle.pec_top.specs.PrintedItems.{items_text}
 use Rattle.pec_top.specs.RefusalLine.{refusal_line, larger_line}
 use Rattle.pec_top.specs.Report.{report_text, report_ending}
@@ -30,6 +31,7 @@ pub record IsRunReport (steps : ℕ) (items : List Item) (output : Output) : Typ
 
 abbrev pub ItemsOutput : Command → List Item → Output → Type 0
 ItemsOutput Prove items output = output ≡ record { text = report_text (verdicts items); ending = report_ending (verdicts items) }
+ItemsOutput Check items output = IsCheckReport items output
 ItemsOutput Print items output = output ≡ record { text = items_text items; ending = ending.Done }
 ItemsOutput (Run steps) items output = IsRunReport steps items output
 

@@ -13,6 +13,7 @@ pub record ProgramRun : Type 0 where
 abbrev pub AreRuns : ℕ → List Item → List ProgramRun → Type 0
 AreRuns steps [] runs = runs ≡ []
 AreRuns steps (item.Rule rule ∷ more) runs = AreRuns steps more runs
+AreRuns steps (item.Certificate c ∷ more) runs = AreRuns steps more runs
 AreRuns steps (item.Program program ∷ more) runs =
     (ran : Ran) × (others : List ProgramRun) × (runs ≡ record { title = program.title; ran = ran } ∷ others)
     × ComesTo program.block steps ran × AreRuns steps more others

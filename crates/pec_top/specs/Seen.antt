@@ -39,6 +39,7 @@ seen_with kind seen section = if is_kind kind section.kind then with_title seen 
 abbrev pub is_chain_rule : Content → Bool
 is_chain_rule (content.Item (item.Rule rule)) = is_chain rule.method
 is_chain_rule (content.Item (item.Program program)) = false
+is_chain_rule (content.Item (item.Certificate c)) = false
 is_chain_rule content.Nothing = false
 is_chain_rule (content.Refused reason) = false
 

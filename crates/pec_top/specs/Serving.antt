@@ -6,10 +6,11 @@ use Rattle.pec_io.specs.Reading.{taken_count}
 use Rattle.pec_io.specs.Writing.{AppendsPart}
 use Rattle.pec_text.specs.SectionsOf.{sections_of}
 use Rattle.pec_top.specs.declared.command.Command.{Command}
-use Rattle.pec_top.specs.declared.command.Command.TheVariants.{Prove, Print, Run}
+use Rattle.pec_top.specs.declared.command.Command.TheVariants.{Prove, Check, Print, Run}
 use Rattle.pec_top.specs.declared.input.Input.{Input}
 use Rattle.pec_top.specs.declared.input.Input.TheVariants as input
 use Rattle.pec_top.specs.declared.output.Output.{Output}
+use Rattle.pec_top.specs.Checks.{CheckedAreValid}
 use Rattle.pec_top.specs.Command.{Name}
 use Rattle.pec_top.specs.Input.{InputIs}
 use Rattle.pec_top.specs.Output.{status_of, OutputIs}
@@ -36,6 +37,9 @@ abbrev pub Proves : Command → List ℕ → Input → Type 0
 Proves Prove bytes (input.Accepted items) = ProvedAreValid (sections_of bytes).whole items
 Proves Prove bytes (input.Refused refusal) = Unit {0}
 Proves Prove bytes input.Larger = Unit {0}
+Proves Check bytes (input.Accepted items) = CheckedAreValid (sections_of bytes).whole items
+Proves Check bytes (input.Refused refusal) = Unit {0}
+Proves Check bytes input.Larger = Unit {0}
 Proves Print bytes found = Unit {0}
 Proves (Run steps) bytes found = Unit {0}
 

@@ -43,6 +43,7 @@ is_chain method.Tile = false
 abbrev pub chain_title : Item → List (List ℕ)
 chain_title (item.Rule rule) = if is_chain rule.method then rule.title ∷ [] else []
 chain_title (item.Program program) = []
+chain_title (item.Certificate c) = []
 
 -- whether a rule of method chain has this title
 abbrev pub has_chain_rule : List ℕ → List Item → Bool

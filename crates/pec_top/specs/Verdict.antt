@@ -17,6 +17,7 @@ verdict_of rule = record { title = rule.title; is_proved = sides_agree rule }
 abbrev pub item_verdicts : Item → List Verdict
 item_verdicts (item.Rule rule) = verdict_of rule ∷ []
 item_verdicts (item.Program program) = []
+item_verdicts (item.Certificate c) = []
 
 abbrev pub verdicts : List Item → List Verdict
 verdicts items = flat_map item_verdicts items

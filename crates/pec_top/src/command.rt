@@ -10,7 +10,9 @@ use itoa::Buffer;
 pub enum Command {
     /// Prove or refuse each rule of the input, and report on it.
     Prove,
-    /// Write each rule and program of the input in canonical form.
+    /// Check each certificate of the input against its rule, and report on it.
+    Check,
+    /// Write each rule, program and certificate of the input in canonical form.
     Print,
     /// Run each program of the input for at most so many steps, and report on it.
     Run(u64),
@@ -53,6 +55,8 @@ fn word_command(word: &str) -> Option<Command>
 {
     if word == "prove" {
         Some(Command::Prove)
+    } else if word == "check" {
+        Some(Command::Check)
     } else if word == "print" {
         Some(Command::Print)
     } else {

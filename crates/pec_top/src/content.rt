@@ -2,18 +2,25 @@
 //! order the reasons come for which a section is refused.
 
 ghost use Rattle.std.specs.Prelude.{◌≡◌, Some, IfOk};
-ghost use Rattle.pec_top.specs.Content.{is_prove, is_built, unread, rule_content, resting_content, chain_content, rule_read_content, program_read_content, RuleHolds, ProgramHolds};
+ghost use Rattle.pec_top.specs.Content.{is_prove, is_built, unread, rule_content, resting_content, certificate_content, chain_content};
+ghost use Rattle.pec_top.specs.Content.{rule_read_content, program_read_content, certificate_read_content};
+ghost use Rattle.pec_top.specs.Content.{RuleHolds, ProgramHolds, CertificateHolds, CertSectionHolds};
+ghost use Rattle.pec_top.specs.LaterFormats.{is_later_format};
 ghost use Rattle.pec_top.specs.Seen.{is_chain_rule};
 ghost use Rattle.pec_top.specs.Titles.{is_chain};
 
 use crate::command::Command;
+use crate::later_formats::is_later_format;
 use crate::no_memory::NoMemory;
 use crate::skip_form::is_skip_rule;
+use cert_checker::Certificate;
+use cert_format::read_certificate;
 use pec_text::Section;
 use program_reader::{ReadRule, read_program};
 use rule_reader::read_rule;
 use sqlite_items::Items;
 use std::alloc::Global;
+use term_text::Unread;
 use toy_imp::{Block, Method, Rule};
 
 /// A program with the title of its section.
@@ -23,11 +30,19 @@ pub struct Program {
     pub block: Block,
 }
 
+/// A certificate with the title of its section, which is that of its rule.
+#[derive(Drop)]
+pub struct TitledCertificate {
+    pub title: Items<u8>,
+    pub certificate: Certificate,
+}
+
 /// What a section holds that a command goes over.
 #[derive(Drop)]
 pub enum Item {
     Rule(Rule),
     Program(Program),
+    Certificate(TitledCertificate),
 }
 
 /// Why a section is refused.
@@ -75,7 +90,7 @@ fn is_built(command: Command, rule: &Rule) -> bool
 {
     match command {
         Command::Prove => is_skip_rule(rule),
-        Command::Print | Command::Run(_) => true,
+        Command::Check | Command::Print | Command::Run(_) => true,
     }
 }
 
@@ -164,7 +179,7 @@ pub fn program_section(
     program_read_content(repeated, title, read)
 }
 
-/// What becomes of a section that rests on a rule, where an earlier rule has its title or none has.
+/// What becomes of a section that rests on a rule and is not read, where an earlier rule has its title or none has.
 pub fn resting_section(has_rule: bool) -> Content
     ensures { result ≡ resting_content has_rule }
 {
@@ -172,6 +187,53 @@ pub fn resting_section(has_rule: bool) -> Content
         Content::Refused(Reason::NotBuilt)
     } else {
         Content::Refused(Reason::IllFormed(13))
+    }
+}
+
+/// What becomes of a certificate, where an earlier rule has its title or none has.
+fn certificate_content(has_rule: bool, title: Items<u8>, certificate: Certificate) -> Content
+    ensures { result ≡ certificate_content has_rule title certificate }
+{
+    if has_rule {
+        Content::Item(Item::Certificate(TitledCertificate { title, certificate }))
+    } else {
+        Content::Refused(Reason::IllFormed(13))
+    }
+}
+
+/// What becomes of what the reader of certificates answered.
+fn certificate_read_content(
+    has_rule: bool,
+    title: Items<u8>,
+    read: Result<Certificate, Unread>,
+) -> Result<Content, NoMemory>
+    ensures { IfOk result (λ found. certificate_read_content has_rule title read ≡ Some found) }
+{
+    match read {
+        Ok(certificate) => Ok(certificate_content(has_rule, title, certificate)),
+        Err(Unread::NotGrammar) => Ok(Content::Refused(Reason::NotGrammar)),
+        Err(Unread::NoMemory) => Err(NoMemory),
+    }
+}
+
+/// What a section holds whose body is read as a certificate.
+#[tactic(auto, using(crate::proofs::Answering::certificate_held))]
+fn read_cert_section(alloc: Global, has_rule: bool, section: &Section) -> Result<Content, NoMemory>
+    ensures { IfOk result (CertificateHolds has_rule section.now) }
+{
+    let title = Items::from_slice(alloc, section.title.as_slice())?;
+    let read = read_certificate(alloc, section.body.as_slice());
+    certificate_read_content(has_rule, title, read)
+}
+
+/// What a `cert` section holds, where an earlier rule has its title or none has.
+pub fn cert_section(alloc: Global, has_rule: bool, section: &Section) -> Result<Content, NoMemory>
+    ensures { IfOk result (CertSectionHolds (is_later_format section.now.body) has_rule section.now) }
+{
+    if is_later_format(section.body.as_slice()) {
+        Ok(resting_section(has_rule))
+    } else {
+        read_cert_section(alloc, has_rule, section)
     }
 }
 
@@ -196,6 +258,8 @@ pub fn is_chain_rule(found: &Content) -> bool
 {
     match found {
         Content::Item(Item::Rule(rule)) => is_chain(rule.method),
-        Content::Item(Item::Program(_)) | Content::Nothing | Content::Refused(_) => false,
+        Content::Item(Item::Program(_) | Item::Certificate(_))
+        | Content::Nothing
+        | Content::Refused(_) => false,
     }
 }

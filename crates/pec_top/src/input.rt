@@ -5,13 +5,15 @@
 ghost use Rattle.std.specs.Prelude.{◌≡◌, IfOk};
 ghost use Rattle.pec_top.specs.Content.{KindHolds};
 ghost use Rattle.pec_top.specs.Input.{InputIs, OneInput, rest_refusal};
+ghost use Rattle.pec_top.specs.FaultlessItems.{HasNoFault};
 ghost use Rattle.pec_top.specs.PrintedItems.{IsPrintable};
 ghost use Rattle.pec_top.specs.Serving.{IsInput};
 ghost use Rattle.pec_top.specs.Seen.{namesakes_in, Sees};
 
 use crate::command::Command;
 use crate::content::{
-    Content, Item, Reason, chain_section, program_section, resting_section, rule_section,
+    Content, Item, Reason, cert_section, chain_section, program_section, resting_section,
+    rule_section,
 };
 use crate::no_memory::NoMemory;
 use crate::titles::{Titles, is_repeated, is_seen, see_chain_rule};
@@ -41,6 +43,7 @@ pub enum Input {
 pub fn read_input(alloc: Global, command: Command, bytes: &[u8]) -> Result<Input, NoMemory>
     ensures is { IfOk result (IsInput command bytes.now) }
     ensures printable { IfOk result IsPrintable }
+    ensures faultless { IfOk result HasNoFault }
 {
     let text = sections(alloc, bytes)?;
     text_input(alloc, command, &text)
@@ -96,7 +99,11 @@ fn section_content<'a>(
             let repeated = is_repeated(&mut titles.programs, title)?;
             program_section(alloc, repeated, section)
         }
-        SectionKind::Cert | SectionKind::Refused | SectionKind::Trace => {
+        SectionKind::Cert => {
+            let has_rule = is_seen(&titles.rules, title);
+            cert_section(alloc, has_rule, section)
+        }
+        SectionKind::Refused | SectionKind::Trace => {
             let has_rule = is_seen(&titles.rules, title);
             Ok(resting_section(has_rule))
         }

@@ -2,9 +2,12 @@
 //! written and with which status the program ends. `specs/Serving.antt` says it of a whole run.
 #![tactic(auto)]
 
+mod check;
+mod check_report;
 mod command;
 mod content;
 mod input;
+mod later_formats;
 mod no_memory;
 mod output;
 mod printed_items;
@@ -16,8 +19,9 @@ mod skip_form;
 mod titles;
 mod verdict;
 
+pub use check::Check;
 pub use command::{Command, one_command};
-pub use content::{Content, Item, Program, Reason};
+pub use content::{Content, Item, Program, Reason, TitledCertificate};
 pub use input::{Input, Refusal, one_input};
 pub use output::{Ending, Output, one_output};
 pub use run_report::Outcome;

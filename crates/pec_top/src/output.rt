@@ -3,8 +3,10 @@
 
 ghost use Rattle.std.specs.Prelude.{◌≡◌, ◌++◌, All, IfOk, OnOk};
 ghost use Rattle.pec_top.specs.Output.{status_of, ItemsOutput, OutputIs, OneOutput};
+ghost use Rattle.pec_top.specs.FaultlessItems.{IsFaultless, HasNoFault};
 ghost use Rattle.pec_top.specs.PrintedItems.{IsSpellable, IsPrintable};
 
+use crate::check_report::check_report;
 use crate::command::Command;
 use crate::content::Item;
 use crate::input::Input;
@@ -22,7 +24,7 @@ use std::alloc::Global;
 pub enum Ending {
     /// All is done.
     Done,
-    /// All is done, and a rule is refused or a program did not end.
+    /// All is done, and a rule is refused, a certificate is not valid or a program did not end.
     SomeFailed,
     /// The input is refused.
     InputRefused,
@@ -50,7 +52,8 @@ impl Ending {
 
 /// What the command has to write for the input.
 pub fn output_of(alloc: Global, command: Command, input: &Input) -> Result<Output, NoMemory>
-    requires { IsPrintable input.now }
+    requires printable { IsPrintable input.now }
+    requires faultless { HasNoFault input.now }
     ensures { IfOk result (OutputIs command input.now) }
 {
     match input {
@@ -80,7 +83,8 @@ fn refused_output(line: Vec<u8>) -> Output
 
 /// What the command has to write for these items.
 fn items_output(alloc: Global, command: Command, items: &[Item]) -> Result<Output, NoMemory>
-    requires { All IsSpellable items.now }
+    requires printable { All IsSpellable items.now }
+    requires faultless { All IsFaultless items.now }
     ensures { IfOk result (ItemsOutput command items.now) }
 {
     match command {
@@ -90,6 +94,7 @@ fn items_output(alloc: Global, command: Command, items: &[Item]) -> Result<Outpu
             let ending = report_ending(all.as_slice());
             Ok(Output { text, ending })
         }
+        Command::Check => check_report(alloc, items),
         Command::Print => {
             let text = Items::from_vec(items_text(alloc, items)?);
             let ending = Ending::Done;

@@ -45,7 +45,7 @@ pub fn run_report(alloc: Global, steps: u64, items: &[Item]) -> Result<Output, N
 }
 
 /// Runs an item that is a program, puts the report on it and adds how it ran.
-#[tactic(auto, using(crate::proofs::Reports::reports_rule, crate::proofs::Reports::reports_program))]
+#[tactic(auto, using(crate::proofs::Reports::reports_rule, crate::proofs::Reports::reports_certificate, crate::proofs::Reports::reports_program))]
 fn put_item(
     alloc: Global,
     steps: u64,
@@ -57,7 +57,7 @@ fn put_item(
         (Reports steps (item.now ∷ []) outcomes.old.items outcomes.new.items out.old.items out.new.items) }
 {
     match item {
-        Item::Rule(_) => Ok(()),
+        Item::Rule(_) | Item::Certificate(_) => Ok(()),
         Item::Program(program) => {
             let ran = run_program(alloc, &program.block, steps)?;
             put_program(program.title.as_slice(), &ran, out)?;

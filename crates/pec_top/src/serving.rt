@@ -6,7 +6,7 @@
 //! | 4 | a read failed; nothing is written |
 //! | 3 | the input is refused; one line is written |
 //! | 6 | want of memory; nothing is written |
-//! | 1 | done, and a rule was refused or a program did not end |
+//! | 1 | done, and a rule was refused, a certificate is not valid or a program did not end |
 //! | 0 | done otherwise |
 //!
 //! Status 5 comes in place of 3, 1 and 0 where a write failed.
@@ -15,6 +15,7 @@ ghost use Rattle.std.specs.Prelude.{◌≡◌, ◌≢◌, ◌≤◌, ◌⊎◌, 
 ghost use Rattle.pec_io.specs.Faults.{Rose};
 ghost use Rattle.pec_io.specs.Reading.{taken_count};
 ghost use Rattle.pec_top.specs.Command.{Name};
+ghost use Rattle.pec_top.specs.FaultlessItems.{HasNoFault};
 ghost use Rattle.pec_top.specs.PrintedItems.{IsPrintable};
 ghost use Rattle.pec_top.specs.Serving.{input_limit, Writes, Serves};
 ghost use Rattle.pec_top.specs.declared.command.Command.{Command};
@@ -67,7 +68,8 @@ pub fn serve_plain<S: Source, K: Sink>(
 /// where there was not enough memory to make the output.
 #[tactic(auto, using(crate::proofs::Inputs::written))]
 fn deliver<K: Sink>(alloc: Global, command: Command, found: &Input, out: &mut K) -> u8
-    requires { IsPrintable found.now }
+    requires printable { IsPrintable found.now }
+    requires faultless { HasNoFault found.now }
     ensures delivered { result ≢ 6 → Writes command found.now (K.written out.old) (K.written out.new) result }
     ensures unwritten { result ≡ 6 → out.new ≡ out.old }
     ensures fault { result ≡ 5 → Rose (K.faults out.old) (K.faults out.new) }

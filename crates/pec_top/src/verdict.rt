@@ -38,6 +38,6 @@ fn push_verdict(alloc: Global, item: &Item, all: &mut Items<Verdict>) -> Result<
             all.push(Verdict { title, is_proved })?;
             Ok(())
         }
-        Item::Program(_) => Ok(()),
+        Item::Program(_) | Item::Certificate(_) => Ok(()),
     }
 }
