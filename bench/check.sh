@@ -49,7 +49,7 @@ four_times "1 MiB of certificates against 256 KiB" 5 1 "$bench" check
 if command -v metamath > /dev/null; then
   theorems 1048576 > "$folder/theorems.mm"
   metamath "read \"$folder/theorems.mm\"" "verify proof *" exit |
-    grep -q "All proofs in the database were verified"
+    grep "All proofs in the database were verified" > /dev/null
   took=$(processor_seconds 3 1 /dev/null metamath "read \"$folder/theorems.mm\"" "verify proof *" exit)
   ours=$(processor_seconds 5 1 "$folder/large" "$bench" check)
   awk -v took="$took" -v ours="$ours" -v a="$(stat -c %s "$folder/theorems.mm")" \
