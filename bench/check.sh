@@ -21,33 +21,14 @@ certificates() {
     }' "$rows"
 }
 
-# theorems BYTES: theorems, each of 4,000 uses of the rule that an equality may be exchanged, of at most so many bytes.
-theorems() {
-  awk -v most="$1" '
-    BEGIN {
-      print "$c |- term = L R $."
-      print "$v x y $."
-      print "tx $f term x $. ty $f term y $."
-      print "tl $a term L $. tr $a term R $."
-      print "known $a |- L = R $."
-      print "${ given $e |- x = y $. flip $a |- y = x $. $}"
-      for (i = 4000; i >= 1; i--) proof = proof (i % 2 ? "tl tr\n" : "tr tl\n")
-      proof = proof "known"
-      for (i = 1; i <= 4000; i++) proof = proof " flip"
-      for (k = 1; size + length(proof) < most; k++) {
-        printf "th%d $p |- L = R $=\n%s\n$.\n", k, proof
-        size += length(proof) + 24
-      }
-    }'
-}
-
 certificates 1048576 > "$folder/large"
 certificates 262144 > "$folder/small"
 "${bench:?}" check < "$folder/large" | grep -qx "not valid 0"
 "$bench" check < "$folder/small" | grep -qx "not valid 0"
 four_times "1 MiB of certificates against 256 KiB" 5 1 "$bench" check
 if command -v metamath > /dev/null; then
-  theorems 1048576 > "$folder/theorems.mm"
+  # each of these theorems has some 44,000 bytes
+  theorems 23 4000 > "$folder/theorems.mm"
   metamath "read \"$folder/theorems.mm\"" "verify proof *" exit |
     grep "All proofs in the database were verified" > /dev/null
   took=$(processor_seconds 3 1 /dev/null metamath "read \"$folder/theorems.mm\"" "verify proof *" exit)

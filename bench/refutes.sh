@@ -11,26 +11,6 @@ looks() {
   processor_seconds 7 1 /dev/null "${bench:?}" refutes leaf "$1" "$2"
 }
 
-# theorems COUNT STEPS: so many theorems, each of so many uses of the rule that an equality may be exchanged.
-theorems() {
-  awk -v count="$1" -v steps="$2" '
-    BEGIN {
-      print "$c |- term = L R $."
-      print "$v x y $."
-      print "tx $f term x $. ty $f term y $."
-      print "tl $a term L $. tr $a term R $."
-      print "known $a |- L = R $."
-      print "${ given $e |- x = y $. flip $a |- y = x $. $}"
-      for (k = 1; k <= count; k++) {
-        printf "th%d $p |- L = R $=\n", k
-        for (i = steps; i >= 1; i--) printf i % 2 ? "tl tr\n" : "tr tl\n"
-        print "known"
-        for (i = 1; i <= steps; i++) print "flip"
-        print "$."
-      }
-    }'
-}
-
 # verifies FILE: the seconds in which metamath reads the file and verifies all that is in it, which it must.
 verifies() {
   metamath "read \"$1\"" "verify proof *" exit | grep "All proofs in the database were verified" > /dev/null || return 1

@@ -32,6 +32,27 @@ ratio() {
       printf "%s: %.4f s against %.4f s, ratio %.2f (below %s)\n", name, a, b, r, most; exit r >= most }'
 }
 
+# theorems COUNT STEPS: a text for metamath of so many theorems, each of so many uses of the rule that an equality may
+# be exchanged.
+theorems() {
+  awk -v count="$1" -v steps="$2" '
+    BEGIN {
+      print "$c |- term = L R $."
+      print "$v x y $."
+      print "tx $f term x $. ty $f term y $."
+      print "tl $a term L $. tr $a term R $."
+      print "known $a |- L = R $."
+      print "${ given $e |- x = y $. flip $a |- y = x $. $}"
+      for (k = 1; k <= count; k++) {
+        printf "th%d $p |- L = R $=\n", k
+        for (i = steps; i >= 1; i--) printf i % 2 ? "tl tr\n" : "tr tl\n"
+        print "known"
+        for (i = 1; i <= steps; i++) print "flip"
+        print "$."
+      }
+    }'
+}
+
 # instructions INPUT COMMAND..: how many instructions the command runs, INPUT as standard input.
 instructions() {
   local input=$1
